@@ -19,7 +19,7 @@ use Rattle.ttx_arguments.specs.Orders.{OrderView, Unfit, inspect_order, version_
 use Rattle.ttx_arguments.specs.Orders.{AnswersBy, IsFaultOf, IsSettled}
 use Rattle.ttx_arguments.specs.declared.orders.Order.{Order}
 use Rattle.ttx_arguments.specs.declared.orders.WordsFault.{WordsFault}
-use Rattle.ttx_arguments.specs.declared.orders.WordsFault.TheVariants.{Refused, Page, Time, Twice, NoMemory}
+use Rattle.ttx_arguments.specs.declared.orders.WordsFault.TheVariants.{Refused, Page, Time, Seconds, Deadlines, Within, Twice, NoMemory}
 
 pub ttx_is_simple : (names : Names) → is_simple (ttx_app names) ≡ true
 unfolding ttx_app
@@ -38,6 +38,9 @@ pub refusal : (fault : WordsFault) (e : Error) (kinds : Kinds) → IsFaultOf fau
 refusal (Refused error) e kinds f h = subst (λ (x : Error). IsAmong (kind_of x) kinds) (sym f.0) (among_kinds kinds e f.1 h)
 refusal Page e kinds f h = f
 refusal Time e kinds f h = f
+refusal Seconds e kinds f h = f
+refusal Deadlines e kinds f h = f
+refusal Within e kinds f h = f
 refusal Twice e kinds f h = f
 refusal NoMemory e kinds f h = tt
 
@@ -70,6 +73,9 @@ pub answered : (app : App) (words : List Text) (answer : Result OrderView Unfit)
 answered app words answer (Ok order) some by is = asked app words _ some (subst (λ (a : Result OrderView Unfit). AsksByCommand app words a) is by)
 answered app words answer (Err Page) some by is = asked app words _ some (subst (λ (a : Result OrderView Unfit). AsksByCommand app words a) is by)
 answered app words answer (Err Time) some by is = asked app words _ some (subst (λ (a : Result OrderView Unfit). AsksByCommand app words a) is by)
+answered app words answer (Err Seconds) some by is = asked app words _ some (subst (λ (a : Result OrderView Unfit). AsksByCommand app words a) is by)
+answered app words answer (Err Deadlines) some by is = asked app words _ some (subst (λ (a : Result OrderView Unfit). AsksByCommand app words a) is by)
+answered app words answer (Err Within) some by is = asked app words _ some (subst (λ (a : Result OrderView Unfit). AsksByCommand app words a) is by)
 answered app words answer (Err Twice) some by is = asked app words _ some (subst (λ (a : Result OrderView Unfit). AsksByCommand app words a) is by)
 answered app words answer (Err (Refused error)) some by is = absurd is
 answered app words answer (Err NoMemory) some by is = absurd is
@@ -82,16 +88,25 @@ refused app words (Refused error) (Err (Refused e)) some h is =
     subst (λ (x : Error). Refuses app words x) (sym is.0) (refuses app words error some h is.1)
 refused app words (Refused error) (Err Page) some h is = absurd is
 refused app words (Refused error) (Err Time) some h is = absurd is
+refused app words (Refused error) (Err Seconds) some h is = absurd is
+refused app words (Refused error) (Err Deadlines) some h is = absurd is
+refused app words (Refused error) (Err Within) some h is = absurd is
 refused app words (Refused error) (Err Twice) some h is = absurd is
 refused app words (Refused error) (Err NoMemory) some h is = absurd is
 refused app words Page result some h is = absurd h
 refused app words Time result some h is = absurd h
+refused app words Seconds result some h is = absurd h
+refused app words Deadlines result some h is = absurd h
+refused app words Within result some h is = absurd h
 refused app words Twice result some h is = absurd h
 refused app words NoMemory (Err NoMemory) some h is = tt
 refused app words NoMemory (Ok order) some h is = absurd is
 refused app words NoMemory (Err (Refused e)) some h is = absurd is
 refused app words NoMemory (Err Page) some h is = absurd is
 refused app words NoMemory (Err Time) some h is = absurd is
+refused app words NoMemory (Err Seconds) some h is = absurd is
+refused app words NoMemory (Err Deadlines) some h is = absurd is
+refused app words NoMemory (Err Within) some h is = absurd is
 refused app words NoMemory (Err Twice) some h is = absurd is
 
 -- ---- words without a fault name a command

@@ -10,19 +10,28 @@ use Rattle.ttx_arguments.specs.Arguments.{command_named}
 use Rattle.ttx_arguments.specs.Grammar.{ttx_app}
 use Rattle.ttx_arguments.specs.Orders.{Asks, order_at}
 use Rattle.ttx_arguments.specs.Moments.{moment_of}
-use Rattle.ttx_arguments.specs.Examples.{VersionWords, CertifyWords, SendWords, RepeatWords, SpliceWords, TwiceWords}
+use Rattle.ttx_arguments.specs.Seconds.{fields_of, hundredths_of}
+use Rattle.ttx_arguments.specs.Examples.{VersionWords, CertifyWords, SendWords, SecondsTexts, FindWords, RepeatWords, SpliceWords, TwiceWords}
 
 pub version_words : VersionWords
 unfolding ttx_app walked bundle_met chars encode_utf8 flags_pass walk_passes flags_fault walk_fault defaults_fault
 version_words names = (refl, refl)
 
 pub certify_words : CertifyWords
-unfolding ttx_app walked bundle_met chars encode_utf8 flags_pass walk_passes flags_fault walk_fault defaults_fault Asks order_at command_named
-certify_words names = inl (refl, refl)
+unfolding ttx_app walked bundle_met chars encode_utf8 flags_pass walk_passes flags_fault walk_fault defaults_fault Asks order_at command_named fields_of hundredths_of decimal_in two_decimals
+certify_words names = (inl (refl, refl), inl (refl, refl), inl (refl, refl), inl (refl, refl), inl (refl, refl))
 
 pub send_words : SendWords
 unfolding ttx_app walked bundle_met chars encode_utf8 flags_pass walk_passes flags_fault walk_fault defaults_fault Asks order_at command_named moment_of decimal_in two_decimals
 send_words names = (inl (refl, refl), inl (refl, refl))
+
+pub seconds_texts : SecondsTexts
+unfolding fields_of hundredths_of decimal_in two_decimals
+seconds_texts = (refl, refl, refl, refl, refl, refl, refl, refl, refl, refl, refl, refl, refl, refl, refl)
+
+pub find_words : FindWords
+unfolding ttx_app walked bundle_met chars encode_utf8 flags_pass walk_passes flags_fault walk_fault defaults_fault Asks order_at command_named fields_of hundredths_of decimal_in two_decimals
+find_words names = (inl (refl, refl), inl (refl, refl), inl (refl, refl), inl (refl, refl), inl (refl, refl), refl)
 
 pub repeat_words : RepeatWords
 unfolding ttx_app walked bundle_met chars encode_utf8 flags_pass walk_passes flags_fault walk_fault defaults_fault Asks order_at command_named

@@ -44,6 +44,8 @@ id_of argument.Fields = codes "fields"
 id_of argument.Phase = codes "phase"
 id_of argument.Offset = codes "offset"
 id_of argument.Sent = codes "sent"
+id_of argument.Deadline = codes "deadline"
+id_of argument.Within = codes "within"
 id_of argument.Save = codes "save"
 id_of argument.At = codes "at"
 id_of argument.PlannedLate = codes "late"
@@ -66,6 +68,8 @@ takes_of argument.Fields = takes.Number 0 4294967295
 takes_of argument.Phase = takes.Number 0 4294967295
 takes_of argument.Sent = takes.Number 0 4294967295
 takes_of argument.Offset = takes.Number 0 47
+takes_of argument.Deadline = takes.Number 1 1000000
+takes_of argument.Within = takes.Text
 takes_of argument.Save = takes.Text
 takes_of argument.At = takes.Text
 takes_of argument.PlannedLate = takes.Nothing
@@ -118,8 +122,10 @@ name_of command.Version = codes "version"
 abbrev pub arguments_of : CommandName → List Argument
 arguments_of command.Inspect = argument.File ∷ []
 arguments_of command.Plan = argument.Service ∷ argument.Planned ∷ argument.Class ∷ argument.PlannedLate ∷ []
-arguments_of command.Find = argument.Cycle ∷ argument.Service ∷ argument.Found ∷ argument.Repeat ∷ argument.Class ∷ []
-arguments_of command.Certify = argument.Cycle ∷ argument.Service ∷ argument.Certificate ∷ argument.Late ∷ argument.Twice ∷ []
+arguments_of command.Find =
+    argument.Cycle ∷ argument.Service ∷ argument.Found ∷ argument.Repeat ∷ argument.Class ∷ argument.Deadline ∷ argument.Within ∷ []
+arguments_of command.Certify =
+    argument.Cycle ∷ argument.Service ∷ argument.Certificate ∷ argument.Late ∷ argument.Twice ∷ argument.Within ∷ []
 arguments_of command.Refute = argument.Cycle ∷ argument.Service ∷ argument.Certificate ∷ argument.Save ∷ []
 arguments_of command.Replay = argument.Cycle ∷ argument.Service ∷ argument.Counter ∷ []
 arguments_of command.Receive = argument.Cycle ∷ argument.Page ∷ argument.Lines ∷ argument.Start ∷ argument.Slots ∷ argument.Kind ∷ []

@@ -1,17 +1,19 @@
 -- Words as a user types them, and what they ask for.
 --
 --   VersionWords             `--version` and `-V`, alone and before another word
---   CertifyWords             an option without a value
+--   CertifyWords             an option without a value, seconds, and options that don't go together
 --   SendWords                options with values and defaults, and a moment that isn't one
+--   SecondsTexts, FindWords  seconds as fields, and texts that are none; one deadline, and two
 --   RepeatWords              a number at the end of its range, and one beyond it
 --   SpliceWords              a number that need not be there
 --   TwiceWords               standard input for two inputs, and for a cycle that is read twice
-use Rattle.std.specs.Prelude.{◌≡◌, ℕ, List, [], ◌∷◌, ◌++◌, Option, Some, None, Ok, Err, codes, true, false}
+use Rattle.std.specs.Prelude.{◌≡◌, ℕ, Bool, List, [], ◌∷◌, ◌++◌, Option, Some, None, Ok, Err, codes, true, false}
 use Rattle.clap.specs.Words.{Text, fault_of}
 use Rattle.clap.specs.declared.error.kind.ErrorKind.TheVariants.{DisplayVersion, ValueValidation}
 use Rattle.ttx_page.specs.declared.class.Class.TheVariants.{Any}
 use Rattle.ttx_arguments.specs.Grammar.{ttx_app}
-use Rattle.ttx_arguments.specs.Orders.{Asks, OrderView, certify_order, find_order, send_order, splice_order, no_time, named_twice}
+use Rattle.ttx_arguments.specs.Orders.{Asks, OrderView, certify_order, find_order, send_order, splice_order, no_time, no_seconds, two_deadlines, within_and_more, named_twice}
+use Rattle.ttx_arguments.specs.Seconds.{fields_of}
 use Rattle.ttx_arguments.specs.declared.grammar.Names.{Names}
 
 abbrev pub VersionWords : Type 0
@@ -19,10 +21,19 @@ VersionWords =
     (names : Names) → (fault_of (ttx_app names) (codes "--version" ∷ []) ≡ DisplayVersion ∷ [])
     × (fault_of (ttx_app names) (codes "-V" ∷ codes "plan" ∷ []) ≡ DisplayVersion ∷ [])
 
+abbrev certify_texts : List Text
+certify_texts = codes "certify" ∷ codes "c" ∷ codes "s" ∷ codes "k" ∷ []
+
+abbrev certified : Bool → Bool → Option ℕ → OrderView
+certified late twice within = certify_order (codes "c") (codes "s") (codes "k") late twice within
+
 abbrev pub CertifyWords : Type 0
 CertifyWords =
-    (names : Names) → Asks (ttx_app names) (codes "certify" ∷ codes "c" ∷ codes "s" ∷ codes "k" ∷ codes "--late" ∷ [])
-    (Ok (certify_order (codes "c") (codes "s") (codes "k") true false))
+    (names : Names) → Asks (ttx_app names) (certify_texts ++ codes "--late" ∷ []) (Ok (certified true false None))
+    × Asks (ttx_app names) (certify_texts ++ codes "--within=0.5" ∷ []) (Ok (certified false false (Some 25)))
+    × Asks (ttx_app names) (certify_texts ++ codes "--within" ∷ codes "0" ∷ []) (Err no_seconds)
+    × Asks (ttx_app names) (certify_texts ++ codes "--twice" ∷ codes "--within=0.5" ∷ []) (Err within_and_more)
+    × Asks (ttx_app names) (certify_texts ++ codes "--within" ∷ codes "1" ∷ codes "--late" ∷ []) (Err within_and_more)
 
 abbrev pub SendWords : Type 0
 SendWords =
@@ -31,10 +42,33 @@ SendWords =
     (Ok (send_order (codes "c") (record { start = (61000, 86399); offset = 4; lines = 16; phase = 0; fields = 3 })))
     × Asks (ttx_app names) (codes "send" ∷ codes "c" ∷ codes "--at" ∷ codes "61000/235960" ∷ codes "--fields" ∷ codes "3" ∷ []) (Err no_time)
 
+abbrev pub SecondsTexts : Type 0
+SecondsTexts =
+    (fields_of (codes "1.28") ≡ Some 64) × (fields_of (codes "1.29") ≡ Some 64) × (fields_of (codes "1.3") ≡ Some 65) × (fields_of (codes "2") ≡ Some 100)
+    × (fields_of (codes "0.02") ≡ Some 1) × (fields_of (codes "20000.00") ≡ Some 1000000)
+    × (fields_of (codes "0.01") ≡ None) × (fields_of (codes "20000.01") ≡ None)
+    × (fields_of (codes ".5") ≡ None) × (fields_of (codes "1.") ≡ None) × (fields_of (codes "1.281") ≡ None) × (fields_of (codes "1.2.8") ≡ None)
+    × (fields_of (codes "01") ≡ None) × (fields_of (codes "+1") ≡ None) × (fields_of [] ≡ None)
+
+abbrev find_texts : List Text
+find_texts = codes "find" ∷ codes "c" ∷ codes "s" ∷ codes "o" ∷ []
+
+abbrev found_by : Option ℕ → OrderView
+found_by deadline = find_order (codes "c") (codes "s") (codes "o") 1 Any deadline
+
+abbrev pub FindWords : Type 0
+FindWords =
+    (names : Names) → Asks (ttx_app names) find_texts (Ok (found_by None))
+    × Asks (ttx_app names) (find_texts ++ codes "--deadline" ∷ codes "1000000" ∷ []) (Ok (found_by (Some 1000000)))
+    × Asks (ttx_app names) (find_texts ++ codes "--within" ∷ codes "1.28" ∷ []) (Ok (found_by (Some 64)))
+    × Asks (ttx_app names) (find_texts ++ codes "--within" ∷ codes "1,28" ∷ []) (Err no_seconds)
+    × Asks (ttx_app names) (find_texts ++ codes "--within" ∷ codes "2" ∷ codes "--deadline" ∷ codes "100" ∷ []) (Err two_deadlines)
+    × (fault_of (ttx_app names) (find_texts ++ codes "--deadline" ∷ codes "0" ∷ []) ≡ ValueValidation ∷ [])
+
 abbrev pub RepeatWords : Type 0
 RepeatWords =
     (names : Names) → Asks (ttx_app names) (codes "find" ∷ codes "c" ∷ codes "s" ∷ codes "o" ∷ codes "--repeat" ∷ codes "8" ∷ [])
-    (Ok (find_order (codes "c") (codes "s") (codes "o") 8 Any))
+    (Ok (find_order (codes "c") (codes "s") (codes "o") 8 Any None))
     × (fault_of (ttx_app names) (codes "find" ∷ codes "c" ∷ codes "s" ∷ codes "o" ∷ codes "--repeat" ∷ codes "9" ∷ []) ≡ ValueValidation ∷ [])
 
 abbrev splice_texts : List Text

@@ -31,6 +31,7 @@ use Rattle.ttx_arguments.specs.declared.arguments.Takes.TheVariants as takes
 use Rattle.ttx_arguments.specs.declared.grammar.Names.{Names}
 use Rattle.ttx_arguments.specs.PageNames.{selection_of}
 use Rattle.ttx_arguments.specs.Moments.{moment_of}
+use Rattle.ttx_arguments.specs.Seconds.{fields_of}
 use Rattle.ttx_picture.specs.declared.forms.Form.{Form}
 use Rattle.ttx_picture.specs.declared.forms.Form.TheVariants as form
 use Rattle.ttx_arguments.specs.declared.command_names.CommandName.{CommandName}
@@ -44,7 +45,7 @@ use Rattle.ttx_arguments.specs.declared.orders.ReceiverKind.TheVariants.{Eager, 
 use Rattle.ttx_arguments.specs.declared.orders.Sending.{Sending}
 use Rattle.ttx_arguments.specs.declared.orders.Tuning.{Tuning}
 use Rattle.ttx_arguments.specs.declared.orders.WordsFault.{WordsFault}
-use Rattle.ttx_arguments.specs.declared.orders.WordsFault.TheVariants.{Refused, Page, Time, Twice, NoMemory}
+use Rattle.ttx_arguments.specs.declared.orders.WordsFault.TheVariants.{Refused, Page, Time, Seconds, Deadlines, Within, Twice, NoMemory}
 
 -- how a page is shown, its name as bytes
 pub record LookView : Type 0 where
@@ -59,8 +60,8 @@ look_view look = record { page = look.page.now; form = look.form; reveal = look.
 pub data OrderView : Type 0 where
   inspect_order : (file : Text) → OrderView
   plan_order : (service out : Text) → (class : Class) → (late : Bool) → OrderView
-  find_order : (cycle service out : Text) → (repeat : ℕ) → (class : Class) → OrderView
-  certify_order : (cycle service certificate : Text) → (late twice : Bool) → OrderView
+  find_order : (cycle service out : Text) → (repeat : ℕ) → (class : Class) → (deadline : Option ℕ) → OrderView
+  certify_order : (cycle service certificate : Text) → (late twice : Bool) → (within : Option ℕ) → OrderView
   refute_order : (cycle service certificate : Text) → (save : Option Text) → OrderView
   replay_order : (cycle service counter : Text) → OrderView
   receive_order : (cycle : Text) → (tuning : Tuning) → OrderView
@@ -78,8 +79,8 @@ pub data OrderView : Type 0 where
 abbrev pub order_view : Order → OrderView
 order_view (Inspect file) = inspect_order file.now
 order_view (Plan o) = plan_order o.service.now o.out.now o.class o.late
-order_view (Find o) = find_order o.cycle.now o.service.now o.out.now o.repeat o.class
-order_view (Certify o) = certify_order o.cycle.now o.service.now o.certificate.now o.late o.twice
+order_view (Find o) = find_order o.cycle.now o.service.now o.out.now o.repeat o.class o.deadline
+order_view (Certify o) = certify_order o.cycle.now o.service.now o.certificate.now o.late o.twice o.within
 order_view (Refute o) = refute_order o.cycle.now o.service.now o.certificate.now (option_map (λ s. s.now) o.save)
 order_view (Replay o) = replay_order o.cycle.now o.service.now o.counter.now
 order_view (Receive cycle tuning) = receive_order cycle.now tuning
@@ -118,17 +119,17 @@ abbrev pub IsInside : Takes → ℕ → Type 0
 IsInside (takes.Number low high) number = (low ≤ number) × (number ≤ high)
 IsInside _ number = ⊤
 
-abbrev pub within : Takes → ℕ → Option ℕ → ℕ
-within (takes.Number low high) default (Some number) = if nat_le low number && nat_le number high then number else default
-within _ default _ = default
+abbrev pub inside : Takes → ℕ → Option ℕ
+inside (takes.Number low high) number = if nat_le low number && nat_le number high then Some number else None
+inside _ number = None
 
 -- The number that an option was given. Texts that are no number in its range are refused by `clap`.
 abbrev pub number_given : Argument → List Row → Option ℕ
-number_given argument rows = option_and_then numeral (given_at argument rows)
+number_given argument rows = option_and_then (inside (takes_of argument)) (option_and_then numeral (given_at argument rows))
 
 -- the same, or the default
 abbrev pub number_at : Argument → ℕ → List Row → ℕ
-number_at argument default rows = within (takes_of argument) default (number_given argument rows)
+number_at argument default rows = unwrap_or (number_given argument rows) default
 
 abbrev pub repeat_at : List Row → ℕ
 repeat_at rows = number_at argument.Repeat 1 rows
@@ -163,6 +164,9 @@ is_set argument rows = bytes_eq (text_at argument rows) (codes "true")
 pub data Unfit : Type 0 where
   no_page : Unfit
   no_time : Unfit
+  no_seconds : Unfit
+  two_deadlines : Unfit
+  within_and_more : Unfit
   named_twice : Unfit
 
 abbrev pub tuning_asked : Selection → List Row → Tuning
@@ -196,15 +200,46 @@ abbrev pub plan_at : List Row → OrderView
 plan_at rows =
     plan_order (text_at argument.Service rows) (text_at argument.Planned rows) (class_named (text_at argument.Class rows)) (is_set argument.PlannedLate rows)
 
-abbrev pub find_at : List Row → OrderView
-find_at rows =
+abbrev pub find_with : Option ℕ → List Row → OrderView
+find_with deadline rows =
     find_order (text_at argument.Cycle rows) (text_at argument.Service rows) (text_at argument.Found rows)
-    (repeat_at rows) (class_named (text_at argument.Class rows))
+    (repeat_at rows) (class_named (text_at argument.Class rows)) deadline
 
-abbrev pub certify_at : List Row → OrderView
-certify_at rows =
+abbrev pub find_within : Option ℕ → List Row → Result OrderView Unfit
+find_within None rows = Err no_seconds
+find_within (Some fields) rows = Ok (find_with (Some fields) rows)
+
+-- the deadline in fields or in seconds, or in neither, but not in both
+abbrev pub find_by : Option ℕ → Option Text → List Row → Result OrderView Unfit
+find_by deadline None rows = Ok (find_with deadline rows)
+find_by (Some fields) (Some seconds) rows = Err two_deadlines
+find_by None (Some seconds) rows = find_within (fields_of seconds) rows
+
+abbrev pub find_at : List Row → Result OrderView Unfit
+find_at rows = find_by (number_given argument.Deadline rows) (given_at argument.Within rows) rows
+
+abbrev pub certify_with : Option ℕ → List Row → OrderView
+certify_with within rows =
     certify_order (text_at argument.Cycle rows) (text_at argument.Service rows) (text_at argument.Certificate rows)
-    (is_set argument.Late rows) (is_set argument.Twice rows)
+    (is_set argument.Late rows) (is_set argument.Twice rows) within
+
+abbrev pub certify_required : Option ℕ → List Row → Result OrderView Unfit
+certify_required None rows = Err no_seconds
+certify_required (Some fields) rows = Ok (certify_with (Some fields) rows)
+
+-- neither late receivers nor a cycle that is read twice go with seconds
+abbrev pub certify_within : Text → List Row → Result OrderView Unfit
+certify_within seconds rows =
+    if is_set argument.Late rows || is_set argument.Twice rows then Err within_and_more
+    else certify_required (fields_of seconds) rows
+
+-- seconds are not needed
+abbrev pub certify_by : Option Text → List Row → Result OrderView Unfit
+certify_by None rows = Ok (certify_with None rows)
+certify_by (Some seconds) rows = certify_within seconds rows
+
+abbrev pub certify_at : List Row → Result OrderView Unfit
+certify_at rows = certify_by (given_at argument.Within rows) rows
 
 abbrev pub refute_at : List Row → OrderView
 refute_at rows =
@@ -277,8 +312,8 @@ is_twice command rows =
 abbrev pub order_by : CommandName → List Row → Result OrderView Unfit
 order_by command.Inspect rows = Ok (inspect_at rows)
 order_by command.Plan rows = Ok (plan_at rows)
-order_by command.Find rows = Ok (find_at rows)
-order_by command.Certify rows = Ok (certify_at rows)
+order_by command.Find rows = find_at rows
+order_by command.Certify rows = certify_at rows
 order_by command.Refute rows = Ok (refute_at rows)
 order_by command.Replay rows = Ok (replay_at rows)
 order_by command.Receive rows = receive_at rows
@@ -323,6 +358,9 @@ AnswersBy app words (Ok order) = Asks app words (Ok (order_view order))
 AnswersBy app words (Err (Refused error)) = Refuses app words error
 AnswersBy app words (Err Page) = Asks app words (Err no_page)
 AnswersBy app words (Err Time) = Asks app words (Err no_time)
+AnswersBy app words (Err Seconds) = Asks app words (Err no_seconds)
+AnswersBy app words (Err Deadlines) = Asks app words (Err two_deadlines)
+AnswersBy app words (Err Within) = Asks app words (Err within_and_more)
 AnswersBy app words (Err Twice) = Asks app words (Err named_twice)
 AnswersBy app words (Err NoMemory) = ⊤
 
@@ -335,6 +373,9 @@ abbrev pub IsOrderOf : Result Order WordsFault → Result OrderView Unfit → Ty
 IsOrderOf (Ok order) answer = answer ≡ Ok (order_view order)
 IsOrderOf (Err Page) answer = answer ≡ Err no_page
 IsOrderOf (Err Time) answer = answer ≡ Err no_time
+IsOrderOf (Err Seconds) answer = answer ≡ Err no_seconds
+IsOrderOf (Err Deadlines) answer = answer ≡ Err two_deadlines
+IsOrderOf (Err Within) answer = answer ≡ Err within_and_more
 IsOrderOf (Err (Refused error)) answer = ⊥
 IsOrderOf (Err Twice) answer = answer ≡ Err named_twice
 IsOrderOf (Err NoMemory) answer = ⊥
@@ -344,6 +385,9 @@ abbrev pub IsRefusalOf : WordsFault → Kinds → Type 0
 IsRefusalOf (Refused error) kinds = IsAmong (kind_of error) kinds
 IsRefusalOf Page kinds = ⊥
 IsRefusalOf Time kinds = ⊥
+IsRefusalOf Seconds kinds = ⊥
+IsRefusalOf Deadlines kinds = ⊥
+IsRefusalOf Within kinds = ⊥
 IsRefusalOf Twice kinds = ⊥
 IsRefusalOf NoMemory kinds = ⊤
 
@@ -352,6 +396,9 @@ abbrev pub IsFaultOf : WordsFault → Error → Type 0
 IsFaultOf (Refused error) e = (error ≡ e) × (kind_of e ≢ OutOfMemory)
 IsFaultOf Page e = ⊥
 IsFaultOf Time e = ⊥
+IsFaultOf Seconds e = ⊥
+IsFaultOf Deadlines e = ⊥
+IsFaultOf Within e = ⊥
 IsFaultOf Twice e = ⊥
 IsFaultOf NoMemory e = kind_of e ≡ OutOfMemory
 
@@ -362,5 +409,8 @@ IsSettled (Refused error) (Err (Refused e)) = (e ≡ error) × (kind_of error �
 IsSettled NoMemory (Err NoMemory) = ⊤
 IsSettled Page (Err Page) = ⊤
 IsSettled Time (Err Time) = ⊤
+IsSettled Seconds (Err Seconds) = ⊤
+IsSettled Deadlines (Err Deadlines) = ⊤
+IsSettled Within (Err Within) = ⊤
 IsSettled Twice (Err Twice) = ⊤
 IsSettled _ _ = ⊥

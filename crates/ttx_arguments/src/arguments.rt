@@ -48,6 +48,8 @@ pub enum Argument {
     Phase,
     Offset,
     Sent,
+    Deadline,
+    Within,
     Save,
     At,
     PlannedLate,
@@ -87,6 +89,8 @@ impl Argument {
             Argument::Phase => "phase",
             Argument::Offset => "offset",
             Argument::Sent => "sent",
+            Argument::Deadline => "deadline",
+            Argument::Within => "within",
             Argument::Save => "save",
             Argument::At => "at",
             Argument::PlannedLate | Argument::Late => "late",
@@ -126,6 +130,8 @@ impl Argument {
             Argument::Phase => "F",
             Argument::Offset => "HALVES",
             Argument::Sent => "PERIODS",
+            Argument::Deadline => "FIELDS",
+            Argument::Within => "SECONDS",
             Argument::At => "MJD/HHMMSS",
             Argument::PlannedLate
             | Argument::Late
@@ -165,6 +171,8 @@ impl Argument {
             Argument::Phase => help::PHASE_OPTION,
             Argument::Offset => help::OFFSET_OPTION,
             Argument::Sent => help::SENT_OPTION,
+            Argument::Deadline => help::DEADLINE_OPTION,
+            Argument::Within => help::WITHIN_OPTION,
             Argument::Save => help::SAVE_OPTION,
             Argument::At => help::AT_OPTION,
             Argument::PlannedLate => help::PLANNED_LATE_OPTION,
@@ -189,7 +197,8 @@ impl Argument {
             Argument::Slots => Takes::Number(0, 1_000_000),
             Argument::Fields | Argument::Phase | Argument::Sent => Takes::Number(0, 4_294_967_295),
             Argument::Offset => Takes::Number(0, 47),
-            Argument::Save | Argument::At => Takes::Text,
+            Argument::Deadline => Takes::Number(1, 1_000_000),
+            Argument::Within | Argument::Save | Argument::At => Takes::Text,
             Argument::PlannedLate
             | Argument::Late
             | Argument::Twice

@@ -138,8 +138,14 @@ impl CommandName {
         match self {
             CommandName::Inspect => &[Argument::File],
             CommandName::Plan => &[Argument::Service, Argument::Planned, Argument::Class, Argument::PlannedLate],
-            CommandName::Find => &[Argument::Cycle, Argument::Service, Argument::Found, Argument::Repeat, Argument::Class],
-            CommandName::Certify => &[Argument::Cycle, Argument::Service, Argument::Certificate, Argument::Late, Argument::Twice],
+            CommandName::Find => &[
+                Argument::Cycle, Argument::Service, Argument::Found, Argument::Repeat,
+                Argument::Class, Argument::Deadline, Argument::Within,
+            ],
+            CommandName::Certify => &[
+                Argument::Cycle, Argument::Service, Argument::Certificate,
+                Argument::Late, Argument::Twice, Argument::Within,
+            ],
             CommandName::Refute => &[Argument::Cycle, Argument::Service, Argument::Certificate, Argument::Save],
             CommandName::Replay => &[Argument::Cycle, Argument::Service, Argument::Counter],
             CommandName::Receive => &[Argument::Cycle, Argument::Page, Argument::Lines, Argument::Start, Argument::Slots, Argument::Kind],

@@ -16,9 +16,11 @@ use crate::orders::{
     WordsFault,
 };
 use crate::page_names::selection;
+use crate::ranges::Fields;
+use crate::seconds::fields_of;
 use crate::values::{
-    class_of, given, given_number, is_set, lines_of, look_of, repeat_of, sending_of, text_of,
-    tuning_of,
+    class_of, deadline_of, given, given_number, is_set, lines_of, look_of, repeat_of, sending_of,
+    text_of, tuning_of,
 };
 use clap::ArgMatches;
 
@@ -112,8 +114,9 @@ pub(crate) fn inspect_of<'a>(values: &ArgMatches<'a>) -> Order<'a>
     }
 }
 
-pub(crate) fn find_of<'a>(values: &ArgMatches<'a>) -> Order<'a>
-    ensures { order_view result ≡ find_at (rows_of (found_of values.now)) }
+// What `find` is asked for with this deadline.
+fn find_with<'a>(values: &ArgMatches<'a>, deadline: Option<Fields>) -> Order<'a>
+    ensures { order_view result ≡ rule.find_with deadline (rows_of (found_of values.now)) }
 {
     Order::Find(FindOrder {
         cycle: text_of(values, Argument::Cycle),
@@ -121,11 +124,26 @@ pub(crate) fn find_of<'a>(values: &ArgMatches<'a>) -> Order<'a>
         out: text_of(values, Argument::Found),
         repeat: repeat_of(values),
         class: class_of(values),
+        deadline,
     })
 }
 
-pub(crate) fn certify_of<'a>(values: &ArgMatches<'a>) -> Order<'a>
-    ensures { order_view result ≡ certify_at (rows_of (found_of values.now)) }
+pub(crate) fn find_of<'a>(values: &ArgMatches<'a>) -> Result<Order<'a>, WordsFault>
+    ensures { IsOrderOf result (find_at (rows_of (found_of values.now))) }
+{
+    match (deadline_of(values), given(values, Argument::Within)) {
+        (deadline, None) => Ok(find_with(values, deadline)),
+        (Some(_), Some(_)) => Err(WordsFault::Deadlines),
+        (None, Some(text)) => match fields_of(text) {
+            None => Err(WordsFault::Seconds),
+            Some(fields) => Ok(find_with(values, Some(fields))),
+        },
+    }
+}
+
+// What `certify` is asked for with this requirement.
+fn certify_with<'a>(values: &ArgMatches<'a>, within: Option<Fields>) -> Order<'a>
+    ensures { order_view result ≡ rule.certify_with within (rows_of (found_of values.now)) }
 {
     Order::Certify(CertifyOrder {
         cycle: text_of(values, Argument::Cycle),
@@ -133,7 +151,30 @@ pub(crate) fn certify_of<'a>(values: &ArgMatches<'a>) -> Order<'a>
         certificate: text_of(values, Argument::Certificate),
         late: is_set(values, Argument::Late),
         twice: is_set(values, Argument::Twice),
+        within,
     })
+}
+
+// The same with the requirement of these seconds, which neither late receivers nor a cycle that is read twice go with.
+fn certify_within<'a>(values: &ArgMatches<'a>, seconds: &str) -> Result<Order<'a>, WordsFault>
+    ensures { IsOrderOf result (rule.certify_within seconds.now (rows_of (found_of values.now))) }
+{
+    if is_set(values, Argument::Late) || is_set(values, Argument::Twice) {
+        return Err(WordsFault::Within);
+    }
+    match fields_of(seconds) {
+        None => Err(WordsFault::Seconds),
+        Some(fields) => Ok(certify_with(values, Some(fields))),
+    }
+}
+
+pub(crate) fn certify_of<'a>(values: &ArgMatches<'a>) -> Result<Order<'a>, WordsFault>
+    ensures { IsOrderOf result (certify_at (rows_of (found_of values.now))) }
+{
+    match given(values, Argument::Within) {
+        None => Ok(certify_with(values, None)),
+        Some(text) => certify_within(values, text),
+    }
 }
 
 pub(crate) fn refute_of<'a>(values: &ArgMatches<'a>) -> Order<'a>

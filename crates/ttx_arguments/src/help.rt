@@ -100,12 +100,15 @@ pub(crate) const FIND_MORE: &str =
 OUT, and then to standard output: found deadline D
 If there is no certificate, OUT stays empty, and the first reason is written to
 standard output: no NUMBER NAME ..
+With --deadline or --within the certificate has this deadline instead, so that
+those of two cycles can have the same, as splice asks. If the least deadline is
+greater, there is none, for the reason that certify would have (no 10 late ..).
 
 Statuses:
   0  found
   1  there is no certificate
-  2  error: .. (the arguments), refused: twice,
-     refused: cycle NUMBER NAME [REST],
+  2  error: .. (the arguments), refused: seconds, refused: deadlines (both
+     options), refused: twice, refused: cycle NUMBER NAME [REST],
      refused: service NUMBER NAME [KEY] page N, refused: service too-long
   3  fault: file, fault: read, fault: write, fault: memory";
 
@@ -124,11 +127,17 @@ If after a header of a page the next header in its magazine has the same page
 number, the verdict is, if there is no other reason,
   no 13 never-shown PAGE SLOT
                      the first such header
+With --within, which goes with neither --late nor --twice, a yes means also that
+pages are seen within SECONDS. Otherwise the answer is, if there is no other
+reason, one of
+  no lines L of M    CERT counts fields of L lines, and SERVICE has M
+  no deadline D of E CERT promises D fields, and SECONDS are E fields
 
 Statuses:
   0  yes
   1  no
-  2  error: .. (the arguments), refused: twice,
+  2  error: .. (the arguments), refused: seconds,
+     refused: within (with --late or --twice), refused: twice,
      refused: cycle NUMBER NAME [REST],
      refused: service NUMBER NAME [KEY] page N, refused: service too-long,
      refused: certificate NUMBER NAME [line N], refused: certificate too-long
@@ -262,8 +271,8 @@ NEWCERT, in this order, to their ends. Writes the verdict to standard output:
                             has been sent for
 
 With --sent, OLD may itself have begun with a change. If the answer to each
-change of a service is yes, a page is seen right from D fields after tuning, or
-after the change that brought it, until a change does not have it alike.
+change of a service is yes, each page is seen right from D fields after tuning,
+or after the change that brought it, until a change alters it.
 
 Statuses:
   0  yes
@@ -469,8 +478,8 @@ pub(crate) const CLASS_OPTION: &str = "Receivers to serve: any, or those that su
 page when they are set to it
 [default: any]";
 
-pub(crate) const REPEAT_OPTION: &str = "Of K successive transmissions of a character at least one
-is received right, 1 to 8 [default: 1]";
+pub(crate) const REPEAT_OPTION: &str = "Of K successive transmissions of a character at least
+one is received right, 1 to 8 [default: 1]";
 
 pub(crate) const LINES_OPTION: &str = "Lines of a field that carry teletext, 1 to 32
 [default: 16]";
@@ -490,9 +499,15 @@ pub(crate) const FORM_OPTION: &str = "How the page is written, see below
 
 pub(crate) const REVEAL_OPTION: &str = "Show concealed characters";
 
-pub(crate) const TWICE_OPTION: &str =
-    "Read CYCLE twice, slot by slot, and keep none of it; with --late
-it is kept";
+pub(crate) const TWICE_OPTION: &str = "Read CYCLE twice, slot by slot, and keep none of it;
+with --late it is kept";
+
+pub(crate) const DEADLINE_OPTION: &str = "Fields of 0.02 s within which pages are to be seen,
+1 to 1000000";
+
+pub(crate) const WITHIN_OPTION: &str = "Seconds within which pages are to be seen, 0.02 to
+20000, with at most two decimals, rounded down to
+fields of 0.02 s";
 
 pub(crate) const SENT_OPTION: &str = "Whole periods for which OLD has been on the air, 0 to
 4294967295; without it, OLD has always been";

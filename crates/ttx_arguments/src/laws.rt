@@ -1,13 +1,14 @@
 //! What some words ask for, computed from the definitions: examples that hold the grammar and the orders to what a user types.
 
-ghost use Rattle.ttx_arguments.specs.Examples.{VersionWords, CertifyWords, SendWords, RepeatWords, SpliceWords, TwiceWords};
+ghost use Rattle.ttx_arguments.specs.Examples.{VersionWords, CertifyWords, SendWords, SecondsTexts, FindWords, RepeatWords, SpliceWords, TwiceWords};
 
 /// `--version` and `-V` ask for the version, also before other words.
 pub fn version_words()
     ensures { VersionWords }
 {}
 
-/// `certify` with `--late` asks for the verdict on late receivers, and not to read the cycle twice.
+/// `certify` with `--late` asks for the verdict on late receivers, and not to read the cycle twice; half a second is 25 fields, and goes
+/// with neither `--twice` nor `--late`.
 pub fn certify_words()
     ensures { CertifyWords }
 {}
@@ -15,6 +16,16 @@ pub fn certify_words()
 /// `send` takes the moment, the fields and the offset, and the defaults of the others; second 60 is refused.
 pub fn send_words()
     ensures { SendWords }
+{}
+
+/// Seconds have at most two decimals, and are whole fields of 0.02 s, rounded down.
+pub fn seconds_texts()
+    ensures { SecondsTexts }
+{}
+
+/// `find` takes a deadline in fields or in seconds, and not in both.
+pub fn find_words()
+    ensures { FindWords }
 {}
 
 /// A repeat count of 8 is taken, and one of 9 is refused.

@@ -12,13 +12,17 @@ pub mod orders;
 mod page_names;
 mod parsing;
 mod ranges;
+mod seconds;
 mod values;
 
-pub use laws::{certify_words, repeat_words, send_words, splice_words, twice_words, version_words};
+pub use laws::{
+    certify_words, find_words, repeat_words, seconds_texts, send_words, splice_words, twice_words,
+    version_words,
+};
 pub use moments::Moment;
 pub use orders::{
     CertifyOrder, FindOrder, Look, Order, PlanOrder, ReceiverKind, RefuteOrder, ReplayOrder,
     Sending, SpliceOrder, Tuning, WaitOrder, WordsFault,
 };
 pub use parsing::words;
-pub use ranges::{Lines, Offset, Repeat};
+pub use ranges::{Fields, Lines, Offset, Repeat};

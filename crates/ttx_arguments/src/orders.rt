@@ -1,7 +1,7 @@
 //! What words ask for, and why they are refused.
 
 use crate::moments::Moment;
-use crate::ranges::{Lines, Offset, Repeat};
+use crate::ranges::{Fields, Lines, Offset, Repeat};
 use ttx_page::{Class, Selection};
 use ttx_picture::Form;
 
@@ -67,6 +67,8 @@ pub struct FindOrder<'a> {
     pub out: &'a str,
     pub repeat: Repeat,
     pub class: Class,
+    /// The deadline of the certificate; without it, the least one.
+    pub deadline: Option<Fields>,
 }
 
 /// What `certify` is asked for.
@@ -79,6 +81,8 @@ pub struct CertifyOrder<'a> {
     pub late: bool,
     /// Whether the cycle is read twice, slot by slot; not with `late`.
     pub twice: bool,
+    /// The deadline that the certificate has to promise, for the lines of the service; without it, any. Not with `late` or `twice`.
+    pub within: Option<Fields>,
 }
 
 /// What `refute` is asked for.
@@ -202,4 +206,10 @@ pub enum WordsFault {
     NoMemory,
     /// 5. A moment isn't `MJD/HHMMSS`.
     Time,
+    /// 6. Seconds aren't a number from 0.02 to 20000 with at most two decimals.
+    Seconds,
+    /// 7. A deadline is given in fields and in seconds.
+    Deadlines,
+    /// 8. `certify` is asked for a time within which pages are seen, and for late receivers or to read the cycle twice.
+    Within,
 }

@@ -45,8 +45,8 @@ fn order_by<'a>(command: CommandName, values: &ArgMatches<'a>) -> Result<Order<'
     match command {
         CommandName::Inspect => Ok(inspect_of(values)),
         CommandName::Plan => Ok(plan_of(values)),
-        CommandName::Find => Ok(find_of(values)),
-        CommandName::Certify => Ok(certify_of(values)),
+        CommandName::Find => find_of(values),
+        CommandName::Certify => certify_of(values),
         CommandName::Refute => Ok(refute_of(values)),
         CommandName::Replay => Ok(replay_of(values)),
         CommandName::Receive => receive_of(values),

@@ -78,6 +78,43 @@ impl Repeat {
     }
 }
 
+/// A number of fields of 0.02 s, 1 to 1,000,000.
+#[derive(Clone, Copy)]
+pub struct Fields {
+    number: u32,
+}
+
+impl Model for Fields {
+    ghost use Rattle.std.specs.Prelude.{◌≤◌, ℕ};
+
+    ghost Value = { ℕ };
+
+    ghost view = { λ f. f.number };
+
+    ghost inverse = { λ n. record { number = n } };
+
+    ghost invariant = { λ f. (1 ≤ f.number) × (f.number ≤ 1000000) };
+}
+
+impl Fields {
+    // So many fields.
+    pub(crate) fn new(number: u32) -> Fields
+        requires { (1 ≤ number) × (number ≤ 1000000) }
+        ensures { result ≡ number }
+    {
+        Fields { number }
+    }
+
+    /// The number of fields, 1 to 1,000,000.
+    pub fn count(&self) -> u32
+        ensures value { result ≡ self.now }
+        ensures from { 1 ≤ result }
+        ensures to { result ≤ 1000000 }
+    {
+        self.number
+    }
+}
+
 /// By how many half hours the clock in page headers is ahead of UTC, 0 to 47.
 #[derive(Clone, Copy)]
 pub struct Offset {

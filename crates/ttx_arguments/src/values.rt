@@ -1,6 +1,6 @@
 //! The values of arguments.
 
-ghost use Rattle.std.specs.Prelude.{◌≡◌, option_map};
+ghost use Rattle.std.specs.Prelude.{◌≡◌, IfSome, option_map};
 ghost use Rattle.clap.specs.Words.{rows_of, found_of};
 ghost use Rattle.ttx_arguments.specs.Arguments.{takes_of};
 ghost use Rattle.ttx_arguments.specs.Orders as rule;
@@ -11,7 +11,7 @@ ghost use Rattle.ttx_arguments.specs.declared.arguments.Argument.TheVariants as 
 use crate::arguments::{Argument, Takes};
 use crate::moments::Moment;
 use crate::orders::{Look, ReceiverKind, Sending, Tuning};
-use crate::ranges::{Lines, Offset, Repeat};
+use crate::ranges::{Fields, Lines, Offset, Repeat};
 use clap::ArgMatches;
 use ttx_page::{Class, Selection};
 use ttx_picture::Form;
@@ -39,26 +39,27 @@ fn numeral(text: &str) -> Option<u32>
     text.parse().ok()
 }
 
-// The number that an argument was given.
-pub(crate) fn given_number(values: &ArgMatches<'_>, argument: Argument) -> Option<u32>
-    ensures { result ≡ number_given argument (rows_of (found_of values.now)) }
+// A number, if it is in the range that an option takes.
+fn inside(takes: Takes, number: u32) -> Option<u32>
+    ensures value { result ≡ rule.inside takes number }
+    ensures range { IfSome result (λ n. IsInside takes n) }
 {
-    match given(values, argument) {
-        Some(text) => numeral(text),
-        None => None,
+    match takes {
+        Takes::Number(low, high) if low <= u64::from(number) && u64::from(number) <= high => {
+            Some(number)
+        }
+        _ => None,
     }
 }
 
-// A number in the range that an option takes, or the default.
-fn within(takes: Takes, default: u32, number: Option<u32>) -> u32
-    requires { IsInside takes default }
-    ensures value { result ≡ rule.within takes default number }
-    ensures inside { IsInside takes result }
+// The number that an option was given.
+pub(crate) fn given_number(values: &ArgMatches<'_>, argument: Argument) -> Option<u32>
+    ensures value { result ≡ number_given argument (rows_of (found_of values.now)) }
+    ensures range { IfSome result (λ n. IsInside (takes_of argument) n) }
 {
-    match (takes, number) {
-        (Takes::Number(low, high), Some(number))
-            if low <= u64::from(number) && u64::from(number) <= high => { number }
-        _ => default,
+    match given(values, argument) {
+        Some(text) => inside(argument.takes(), numeral(text)?),
+        None => None,
     }
 }
 
@@ -68,7 +69,10 @@ fn number_of(values: &ArgMatches<'_>, argument: Argument, default: u32) -> u32
     ensures value { result ≡ number_at argument default (rows_of (found_of values.now)) }
     ensures inside { IsInside (takes_of argument) result }
 {
-    within(argument.takes(), default, given_number(values, argument))
+    match given_number(values, argument) {
+        Some(number) => number,
+        None => default,
+    }
 }
 
 pub(crate) fn repeat_of(values: &ArgMatches<'_>) -> Repeat
@@ -81,6 +85,16 @@ pub(crate) fn lines_of(values: &ArgMatches<'_>) -> Lines
     ensures { result ≡ lines_at (rows_of (found_of values.now)) }
 {
     Lines::new(number_of(values, Argument::Lines, 16) as u8)
+}
+
+// The deadline that `--deadline` was given.
+pub(crate) fn deadline_of(values: &ArgMatches<'_>) -> Option<Fields>
+    ensures { result ≡ number_given argument.Deadline (rows_of (found_of values.now)) }
+{
+    match given_number(values, Argument::Deadline) {
+        Some(count) => Some(Fields::new(count)),
+        None => None,
+    }
 }
 
 fn offset_of(values: &ArgMatches<'_>) -> Offset

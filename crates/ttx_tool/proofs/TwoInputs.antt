@@ -5,7 +5,9 @@ use Rattle.ttx_files.specs.Texts.{IsServiceText}
 use Rattle.ttx_cycle.specs.Files.{IsPacketFile}
 use Rattle.ttx_page.specs.declared.class.Class.{Class}
 use Rattle.ttx_source.specs.Services.{ServiceFields}
+use Rattle.ttx_deadline.specs.declared.finding.Asked.{Asked}
 use Rattle.ttx_tool.specs.Find.{IsFoundAndTold, IsFinding}
+use Rattle.ttx_tool.specs.FindDeadline.{IsAskedAndTold, IsAsked}
 use Rattle.ttx_tool.specs.Wait.{IsWaitOf, IsWaiting}
 use Rattle.ttx_wait.specs.declared.reports.Detail.{Detail}
 
@@ -28,3 +30,10 @@ module _ (slots : List (List ℕ)) (service : ServiceFields) (repeat : ℕ) (cla
   waiting_of detail text told = lifted (λ x y. IsPacketFile x slots × IsServiceText y service)
       (λ x y. IsWaiting x y repeat class detail text status) a b
       (λ x y is. record { slots = slots; service = service; cycle_is = is.0; service_is = is.1; told = told }) read
+
+pub asked_of : (slots : List (List ℕ)) (service : ServiceFields) (asked : Asked) (status : ℕ) (a b : Option (List ℕ)) →
+    IfSome a (λ x. IfSome b (λ y. IsPacketFile x slots × IsServiceText y service)) → (file line : List ℕ) →
+    IsAskedAndTold slots service asked file line status → IfSome a (λ x. IfSome b (λ y. IsAsked x y asked file line status))
+asked_of slots service asked status a b read file line told =
+    lifted (λ x y. IsPacketFile x slots × IsServiceText y service) (λ x y. IsAsked x y asked file line status) a b
+    (λ x y is. record { slots = slots; service = service; cycle_is = is.0; service_is = is.1; told = told }) read

@@ -1,7 +1,7 @@
 -- The answers of calls of other crates as those of commands.
 --
---   verdict_status, late_status, splice_status      0 for a yes, 1 for a no
---   certify_answer, late_answer, splice_answer      a verdict as its status, or a fault
+--   verdict_status, late_status, required_status, splice_status, sent_status      0 for a yes, 1 for a no
+--   certify_answer, late_answer, required_answer, splice_answer, sent_answer      a verdict as its status, or a fault
 --   pages_answer, check_answer      what lists the pages of a cycle; what checks the text of a service
 --   IsAnswered              a command answers what a call does
 use Rattle.std.specs.Prelude.{◌≡◌, ℕ, ⊤, Result, Ok, Err}
@@ -9,6 +9,8 @@ use Rattle.ttx_files.specs.declared.faults.FilesFault.{FilesFault}
 use Rattle.ttx_certify.specs.declared.verdict.Verdict.{Verdict}
 use Rattle.ttx_certify.specs.declared.verdict.Verdict.TheVariants as verdict
 use Rattle.ttx_check.specs.declared.faults.CheckFault.{CheckFault}
+use Rattle.ttx_deadline.specs.declared.requirements.RequiredVerdict.{RequiredVerdict}
+use Rattle.ttx_deadline.specs.declared.requirements.RequiredVerdict.TheVariants as required
 use Rattle.ttx_late.specs.declared.verdict.LateVerdict.{LateVerdict}
 use Rattle.ttx_late.specs.declared.verdict.LateVerdict.TheVariants as late
 use Rattle.ttx_pages.specs.declared.faults.PagesFault.{PagesFault}
@@ -28,6 +30,11 @@ late_status (late.Yes gap) = 0
 late_status (late.No reason) = 1
 late_status (late.NeverShown page slot) = 1
 
+abbrev pub required_status : RequiredVerdict → ℕ
+required_status required.Yes = 0
+required_status (required.No reason) = 1
+required_status (required.Unmet unmet) = 1
+
 abbrev pub splice_status : SpliceVerdict → ℕ
 splice_status splice.Yes = 0
 splice_status (splice.No reason) = 1
@@ -44,6 +51,10 @@ certify_answer (Err fault) = Err (tool_fault fault)
 abbrev pub late_answer : Result LateVerdict FilesFault → Result ℕ ToolFault
 late_answer (Ok verdict) = Ok (late_status verdict)
 late_answer (Err fault) = Err (tool_fault fault)
+
+abbrev pub required_answer : Result RequiredVerdict FilesFault → Result ℕ ToolFault
+required_answer (Ok verdict) = Ok (required_status verdict)
+required_answer (Err fault) = Err (tool_fault fault)
 
 abbrev pub splice_answer : Result SpliceVerdict FilesFault → Result ℕ ToolFault
 splice_answer (Ok verdict) = Ok (splice_status verdict)

@@ -11,6 +11,7 @@ pub mod Plan
 pub mod Preview
 pub mod Extract
 pub mod Find
+pub mod FindDeadline
 pub mod Refute
 pub mod UnlikeViews
 pub mod Replay

@@ -152,6 +152,9 @@ abbrev pub ReportsWords : WordsFault → Option (List ℕ) → Option (List ℕ)
 ReportsWords (words.Refused error) old new result = (text : List ℕ) × Reports text 2 old new result
 ReportsWords words.Page old new result = Reports (codes "refused: page" ++ 10 ∷ []) 2 old new result
 ReportsWords words.Time old new result = Reports (codes "refused: time" ++ 10 ∷ []) 2 old new result
+ReportsWords words.Seconds old new result = Reports (codes "refused: seconds" ++ 10 ∷ []) 2 old new result
+ReportsWords words.Deadlines old new result = Reports (codes "refused: deadlines" ++ 10 ∷ []) 2 old new result
+ReportsWords words.Within old new result = Reports (codes "refused: within" ++ 10 ∷ []) 2 old new result
 ReportsWords words.Twice old new result = Reports (codes "refused: twice" ++ 10 ∷ []) 2 old new result
 ReportsWords words.NoMemory old new result = Reports (fault_line NoMemory) 3 old new result
 

@@ -4,9 +4,11 @@
 
 pub mod book;
 pub mod certify;
+pub mod certify_within;
 pub mod check;
 pub mod extract;
 pub mod find;
+pub mod find_deadline;
 mod inputs;
 pub mod inspect;
 pub mod pages;

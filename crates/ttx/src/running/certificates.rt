@@ -7,8 +7,9 @@ use crate::reports::{report, status_of};
 use std::fs::File;
 use std::io;
 use std::io::BufReader;
-use ttx_arguments::{CertifyOrder, FindOrder, WaitOrder};
+use ttx_arguments::{CertifyOrder, Fields, FindOrder, WaitOrder};
 use ttx_cycle::Counted;
+use ttx_deadline::Asked;
 use ttx_tool::{ToolFault, commands};
 use ttx_wait::Detail;
 
@@ -28,11 +29,35 @@ fn certify_readers(
     )
 }
 
-fn certify_claim(rt: &HostRuntime, claim: Claim, late: bool) -> Result<u8, ToolFault> {
+// The same for a certificate from which a deadline is required.
+fn certify_readers_within(
+    rt: &HostRuntime,
+    readers: &mut ClaimReaders,
+    required: u32,
+) -> Result<u8, ToolFault> {
+    let mut writer = Counted::new(io::writer(rt));
+    commands::certify_within::run(
+        rt.alloc(),
+        &mut readers.cycle,
+        &mut readers.service,
+        &mut readers.text,
+        required,
+        &mut writer,
+    )
+}
+
+fn certify_claim(
+    rt: &HostRuntime,
+    claim: Claim,
+    order: &CertifyOrder<'_>,
+) -> Result<u8, ToolFault> {
     let Ok(mut readers) = claim.readers(rt) else {
         return Err(ToolFault::NoMemory);
     };
-    certify_readers(rt, &mut readers, late)
+    match order.within {
+        None => certify_readers(rt, &mut readers, order.late),
+        Some(fields) => certify_readers_within(rt, &mut readers, fields.count()),
+    }
 }
 
 // The same for a cycle that is read twice.
@@ -70,7 +95,7 @@ pub fn certify(rt: &HostRuntime, order: &CertifyOrder<'_>) -> Outcome {
         return Ok(status_of(rt, certify_twice(rt, first, claim)));
     }
     let claim = Claim::open(rt, order.cycle, order.service, order.certificate)?;
-    Ok(status_of(rt, certify_claim(rt, claim, order.late)))
+    Ok(status_of(rt, certify_claim(rt, claim, order)))
 }
 
 // The status is 0 where there is a deadline, else 1.
@@ -92,6 +117,30 @@ fn find_in(
     )
 }
 
+// The same with a deadline that is asked for.
+fn find_in_with(
+    rt: &HostRuntime,
+    readers: &mut SentServiceReaders,
+    order: &FindOrder<'_>,
+    fields: Fields,
+    file: &mut Counted<File>,
+) -> Result<u8, ToolFault> {
+    let mut writer = Counted::new(io::writer(rt));
+    let asked = Asked {
+        class: order.class,
+        repeat: order.repeat.count(),
+        deadline: fields.count(),
+    };
+    commands::find_deadline::run(
+        rt.alloc(),
+        &mut readers.cycle,
+        &mut readers.service,
+        asked,
+        file,
+        &mut writer,
+    )
+}
+
 fn find_to(
     rt: &HostRuntime,
     inputs: SentService,
@@ -102,7 +151,10 @@ fn find_to(
     let Ok(mut readers) = inputs.readers(rt) else {
         return Err(ToolFault::NoMemory);
     };
-    find_in(rt, &mut readers, order, &mut file)
+    match order.deadline {
+        None => find_in(rt, &mut readers, order, &mut file),
+        Some(fields) => find_in_with(rt, &mut readers, order, fields, &mut file),
+    }
 }
 
 /// Opens the cycle and the service, makes the certificate's file anew, and finds the certificate.

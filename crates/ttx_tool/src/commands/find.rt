@@ -23,10 +23,10 @@ use ttx_witness::{Certificate, NoMemory, write_certificate};
 
 // What goes out: the bytes of the certificate's file, the line, and the status.
 #[derive(Drop)]
-struct Told {
-    file: Vec<u8>,
-    line: String,
-    status: u8,
+pub(super) struct Told {
+    pub file: Vec<u8>,
+    pub line: String,
+    pub status: u8,
 }
 
 // The line of a deadline.
@@ -37,7 +37,11 @@ fn found_line(alloc: Global, deadline: u32) -> Result<String, AllocError>
 }
 
 // What goes out where there is a deadline.
-fn tell_deadline(alloc: Global, certificate: &Certificate, deadline: u32) -> Result<Told, NoMemory>
+pub(super) fn tell_deadline(
+    alloc: Global,
+    certificate: &Certificate,
+    deadline: u32,
+) -> Result<Told, NoMemory>
     ensures { IfOk result (λ told. WritesDeadline (fields_of certificate.now) deadline told.file.items (string_bytes told.line) told.status) }
 {
     let file = write_certificate(alloc, certificate)?;

@@ -264,6 +264,9 @@ pub fn report_words<W: Write>(
         }
         WordsFault::Page => write_text(writer, "refused: page\n", 2),
         WordsFault::Time => write_text(writer, "refused: time\n", 2),
+        WordsFault::Seconds => write_text(writer, "refused: seconds\n", 2),
+        WordsFault::Deadlines => write_text(writer, "refused: deadlines\n", 2),
+        WordsFault::Within => write_text(writer, "refused: within\n", 2),
         WordsFault::Twice => write_text(writer, "refused: twice\n", 2),
         WordsFault::NoMemory => report(alloc, &ToolFault::NoMemory, writer),
     }
