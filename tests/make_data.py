@@ -188,6 +188,9 @@ def services():
         "planned-suppressed.toml": serial + quiet.format(100),
         "planned-late.toml": "lines = 2\nserial = false\n" + quiet.format(100) + "often = 2\n" + quiet.format(200) + quiet.format(201),
         "planned-parallel.toml": "lines = 2\nserial = false\n" + quiet.format(100) + quiet.format(200),
+        "within-27-fields.toml": serial + page.format(100) + "within = 0.54\n",
+        "within-26-fields.toml": serial + page.format(100) + "within = 0.52\n",
+        "within-0.toml": serial + page.format(100) + "within = 0\n",
         "no-serial.toml": "lines = 2\n",
         "kind-of-page.toml": serial + "page = 1\n",
     }

@@ -11,7 +11,7 @@ use Rattle.ttx_arguments.specs.Grammar.{ttx_app}
 use Rattle.ttx_arguments.specs.Orders.{Asks, order_at}
 use Rattle.ttx_arguments.specs.Moments.{moment_of}
 use Rattle.ttx_arguments.specs.Seconds.{fields_of, hundredths_of}
-use Rattle.ttx_arguments.specs.Examples.{VersionWords, CertifyWords, SendWords, SecondsTexts, FindWords, RepeatWords, SpliceWords, TwiceWords}
+use Rattle.ttx_arguments.specs.Examples.{VersionWords, CertifyWords, SendWords, PlanWords, SecondsTexts, FindWords, RepeatWords, SpliceWords, TwiceWords}
 
 pub version_words : VersionWords
 unfolding ttx_app walked bundle_met chars encode_utf8 flags_pass walk_passes flags_fault walk_fault defaults_fault
@@ -24,6 +24,10 @@ certify_words names = (inl (refl, refl), inl (refl, refl), inl (refl, refl), inl
 pub send_words : SendWords
 unfolding ttx_app walked bundle_met chars encode_utf8 flags_pass walk_passes flags_fault walk_fault defaults_fault Asks order_at command_named moment_of decimal_in two_decimals
 send_words names = (inl (refl, refl), inl (refl, refl))
+
+pub plan_words : PlanWords
+unfolding ttx_app walked bundle_met chars encode_utf8 flags_pass walk_passes flags_fault walk_fault defaults_fault Asks order_at command_named
+plan_words names = (inl (refl, refl), inl (refl, refl), inl (refl, refl), inl (refl, refl))
 
 pub seconds_texts : SecondsTexts
 unfolding fields_of hundredths_of decimal_in two_decimals

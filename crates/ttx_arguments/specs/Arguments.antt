@@ -49,6 +49,7 @@ id_of argument.Within = codes "within"
 id_of argument.Save = codes "save"
 id_of argument.At = codes "at"
 id_of argument.PlannedLate = codes "late"
+id_of argument.Spread = codes "spread"
 id_of argument.Late = codes "late"
 id_of argument.Twice = codes "twice"
 id_of argument.Reveal = codes "reveal"
@@ -73,6 +74,7 @@ takes_of argument.Within = takes.Text
 takes_of argument.Save = takes.Text
 takes_of argument.At = takes.Text
 takes_of argument.PlannedLate = takes.Nothing
+takes_of argument.Spread = takes.Nothing
 takes_of argument.Late = takes.Nothing
 takes_of argument.Twice = takes.Nothing
 takes_of argument.Reveal = takes.Nothing
@@ -121,7 +123,7 @@ name_of command.Version = codes "version"
 
 abbrev pub arguments_of : CommandName → List Argument
 arguments_of command.Inspect = argument.File ∷ []
-arguments_of command.Plan = argument.Service ∷ argument.Planned ∷ argument.Class ∷ argument.PlannedLate ∷ []
+arguments_of command.Plan = argument.Service ∷ argument.Planned ∷ argument.Class ∷ argument.PlannedLate ∷ argument.Spread ∷ []
 arguments_of command.Find =
     argument.Cycle ∷ argument.Service ∷ argument.Found ∷ argument.Repeat ∷ argument.Class ∷ argument.Deadline ∷ argument.Within ∷ []
 arguments_of command.Certify =

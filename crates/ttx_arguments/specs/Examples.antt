@@ -3,6 +3,7 @@
 --   VersionWords             `--version` and `-V`, alone and before another word
 --   CertifyWords             an option without a value, seconds, and options that don't go together
 --   SendWords                options with values and defaults, and a moment that isn't one
+--   PlanWords                two options without a value, alone and together
 --   SecondsTexts, FindWords  seconds as fields, and texts that are none; one deadline, and two
 --   RepeatWords              a number at the end of its range, and one beyond it
 --   SpliceWords              a number that need not be there
@@ -12,7 +13,7 @@ use Rattle.clap.specs.Words.{Text, fault_of}
 use Rattle.clap.specs.declared.error.kind.ErrorKind.TheVariants.{DisplayVersion, ValueValidation}
 use Rattle.ttx_page.specs.declared.class.Class.TheVariants.{Any}
 use Rattle.ttx_arguments.specs.Grammar.{ttx_app}
-use Rattle.ttx_arguments.specs.Orders.{Asks, OrderView, certify_order, find_order, send_order, splice_order, no_time, no_seconds, two_deadlines, within_and_more, named_twice}
+use Rattle.ttx_arguments.specs.Orders.{Asks, OrderView, certify_order, find_order, plan_order, send_order, splice_order, no_time, no_seconds, two_deadlines, within_and_more, named_twice}
 use Rattle.ttx_arguments.specs.Seconds.{fields_of}
 use Rattle.ttx_arguments.specs.declared.grammar.Names.{Names}
 
@@ -41,6 +42,19 @@ SendWords =
     (codes "send" ∷ codes "c" ∷ codes "--at" ∷ codes "61000/235959" ∷ codes "--fields" ∷ codes "3" ∷ codes "--offset=4" ∷ [])
     (Ok (send_order (codes "c") (record { start = (61000, 86399); offset = 4; lines = 16; phase = 0; fields = 3 })))
     × Asks (ttx_app names) (codes "send" ∷ codes "c" ∷ codes "--at" ∷ codes "61000/235960" ∷ codes "--fields" ∷ codes "3" ∷ []) (Err no_time)
+
+abbrev plan_texts : List Text
+plan_texts = codes "plan" ∷ codes "s" ∷ codes "o" ∷ []
+
+abbrev planned : Bool → Bool → OrderView
+planned late spread = plan_order (codes "s") (codes "o") Any late spread
+
+abbrev pub PlanWords : Type 0
+PlanWords =
+    (names : Names) → Asks (ttx_app names) plan_texts (Ok (planned false false))
+    × Asks (ttx_app names) (plan_texts ++ codes "--spread" ∷ []) (Ok (planned false true))
+    × Asks (ttx_app names) (plan_texts ++ codes "--late" ∷ []) (Ok (planned true false))
+    × Asks (ttx_app names) (plan_texts ++ codes "--spread" ∷ codes "--late" ∷ []) (Ok (planned true true))
 
 abbrev pub SecondsTexts : Type 0
 SecondsTexts =

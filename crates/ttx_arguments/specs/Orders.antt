@@ -59,7 +59,7 @@ look_view look = record { page = look.page.now; form = look.form; reveal = look.
 -- an order, its texts as bytes
 pub data OrderView : Type 0 where
   inspect_order : (file : Text) → OrderView
-  plan_order : (service out : Text) → (class : Class) → (late : Bool) → OrderView
+  plan_order : (service out : Text) → (class : Class) → (late spread : Bool) → OrderView
   find_order : (cycle service out : Text) → (repeat : ℕ) → (class : Class) → (deadline : Option ℕ) → OrderView
   certify_order : (cycle service certificate : Text) → (late twice : Bool) → (within : Option ℕ) → OrderView
   refute_order : (cycle service certificate : Text) → (save : Option Text) → OrderView
@@ -78,7 +78,7 @@ pub data OrderView : Type 0 where
 
 abbrev pub order_view : Order → OrderView
 order_view (Inspect file) = inspect_order file.now
-order_view (Plan o) = plan_order o.service.now o.out.now o.class o.late
+order_view (Plan o) = plan_order o.service.now o.out.now o.class o.late o.spread
 order_view (Find o) = find_order o.cycle.now o.service.now o.out.now o.repeat o.class o.deadline
 order_view (Certify o) = certify_order o.cycle.now o.service.now o.certificate.now o.late o.twice o.within
 order_view (Refute o) = refute_order o.cycle.now o.service.now o.certificate.now (option_map (λ s. s.now) o.save)
@@ -198,7 +198,8 @@ inspect_at rows = inspect_order (text_at argument.File rows)
 
 abbrev pub plan_at : List Row → OrderView
 plan_at rows =
-    plan_order (text_at argument.Service rows) (text_at argument.Planned rows) (class_named (text_at argument.Class rows)) (is_set argument.PlannedLate rows)
+    plan_order (text_at argument.Service rows) (text_at argument.Planned rows) (class_named (text_at argument.Class rows))
+    (is_set argument.PlannedLate rows) (is_set argument.Spread rows)
 
 abbrev pub find_with : Option ℕ → List Row → OrderView
 find_with deadline rows =

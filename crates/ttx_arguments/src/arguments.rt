@@ -53,6 +53,7 @@ pub enum Argument {
     Save,
     At,
     PlannedLate,
+    Spread,
     Late,
     Twice,
     Reveal,
@@ -94,6 +95,7 @@ impl Argument {
             Argument::Save => "save",
             Argument::At => "at",
             Argument::PlannedLate | Argument::Late => "late",
+            Argument::Spread => "spread",
             Argument::Twice => "twice",
             Argument::Reveal => "reveal",
             Argument::Items => "items",
@@ -134,6 +136,7 @@ impl Argument {
             Argument::Within => "SECONDS",
             Argument::At => "MJD/HHMMSS",
             Argument::PlannedLate
+            | Argument::Spread
             | Argument::Late
             | Argument::Twice
             | Argument::Reveal
@@ -176,6 +179,7 @@ impl Argument {
             Argument::Save => help::SAVE_OPTION,
             Argument::At => help::AT_OPTION,
             Argument::PlannedLate => help::PLANNED_LATE_OPTION,
+            Argument::Spread => help::SPREAD_OPTION,
             Argument::Late => help::LATE_OPTION,
             Argument::Twice => help::TWICE_OPTION,
             Argument::Reveal => help::REVEAL_OPTION,
@@ -200,6 +204,7 @@ impl Argument {
             Argument::Deadline => Takes::Number(1, 1_000_000),
             Argument::Within | Argument::Save | Argument::At => Takes::Text,
             Argument::PlannedLate
+            | Argument::Spread
             | Argument::Late
             | Argument::Twice
             | Argument::Reveal

@@ -137,7 +137,7 @@ impl CommandName {
     {
         match self {
             CommandName::Inspect => &[Argument::File],
-            CommandName::Plan => &[Argument::Service, Argument::Planned, Argument::Class, Argument::PlannedLate],
+            CommandName::Plan => &[Argument::Service, Argument::Planned, Argument::Class, Argument::PlannedLate, Argument::Spread],
             CommandName::Find => &[
                 Argument::Cycle, Argument::Service, Argument::Found, Argument::Repeat,
                 Argument::Class, Argument::Deadline, Argument::Within,

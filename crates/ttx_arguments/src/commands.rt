@@ -103,6 +103,7 @@ pub(crate) fn plan_of<'a>(values: &ArgMatches<'a>) -> Order<'a>
         out: text_of(values, Argument::Planned),
         class: class_of(values),
         late: is_set(values, Argument::PlannedLate),
+        spread: is_set(values, Argument::Spread),
     })
 }
 

@@ -86,14 +86,26 @@ With --late, a time-filling header of the magazine comes between two headers of
 one page number. Receivers that show a page only when another page number ends
 it then show each page: certify --late says yes to the certificate of find.
 
+The cycle has eight rounds, and a page whose often is O is sent in O of them.
+Without --spread every page is sent in the first round, which is then the
+longest. With --spread the rounds are of like length, so a page that is sent
+often comes at even times; and a page that has within in SERVICE, and no often,
+is sent as often as that takes. If that is not possible, OUT stays empty, and
+there is a line for each page that comes too late:
+  late PAGE F fields of G   it is seen within F fields at most, not within G
+
 Statuses:
   0  done
+  1  a page is late
   2  error: .. (the arguments), refused: service NUMBER NAME [KEY] page N,
      refused: service too-long, refused: plan 1 no-pages,
      refused: plan 2 too-long
   3  fault: file, fault: read, fault: write, fault: memory";
 
 pub(crate) const PLANNED_LATE_OPTION: &str = "Plan also for receivers that may show a page late";
+
+pub(crate) const SPREAD_OPTION: &str = "Spread pages that come often evenly, and let those with
+within come as often as they need";
 
 pub(crate) const FIND_MORE: &str =
     "Reads CYCLE and SERVICE, in this order, to their ends. Writes the certificate to

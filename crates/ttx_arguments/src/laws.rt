@@ -1,6 +1,6 @@
 //! What some words ask for, computed from the definitions: examples that hold the grammar and the orders to what a user types.
 
-ghost use Rattle.ttx_arguments.specs.Examples.{VersionWords, CertifyWords, SendWords, SecondsTexts, FindWords, RepeatWords, SpliceWords, TwiceWords};
+ghost use Rattle.ttx_arguments.specs.Examples.{VersionWords, CertifyWords, SendWords, PlanWords, SecondsTexts, FindWords, RepeatWords, SpliceWords, TwiceWords};
 
 /// `--version` and `-V` ask for the version, also before other words.
 pub fn version_words()
@@ -16,6 +16,11 @@ pub fn certify_words()
 /// `send` takes the moment, the fields and the offset, and the defaults of the others; second 60 is refused.
 pub fn send_words()
     ensures { SendWords }
+{}
+
+/// `plan` takes `--late` and `--spread`, alone and together.
+pub fn plan_words()
+    ensures { PlanWords }
 {}
 
 /// Seconds have at most two decimals, and are whole fields of 0.02 s, rounded down.

@@ -16,8 +16,8 @@ mod seconds;
 mod values;
 
 pub use laws::{
-    certify_words, find_words, repeat_words, seconds_texts, send_words, splice_words, twice_words,
-    version_words,
+    certify_words, find_words, plan_words, repeat_words, seconds_texts, send_words, splice_words,
+    twice_words, version_words,
 };
 pub use moments::Moment;
 pub use orders::{

@@ -57,6 +57,8 @@ pub struct PlanOrder<'a> {
     pub class: Class,
     /// For receivers that may show pages late, too.
     pub late: bool,
+    /// Whether pages that are sent often come at even times, and pages with a promise as often as that takes.
+    pub spread: bool,
 }
 
 /// What `find` is asked for.

@@ -9,6 +9,7 @@ mod FreshUntilHeader
 mod SameInputs
 mod PlannedFiles
 mod PlanOfText
+mod PromisedPlans
 mod TooLong
 mod ThreeInputs
 mod ServiceIds

@@ -8,6 +8,7 @@ pub mod ViewLines
 pub mod Receive
 pub mod Show
 pub mod Plan
+pub mod Promised
 pub mod Preview
 pub mod Extract
 pub mod Find

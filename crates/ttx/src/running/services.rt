@@ -10,6 +10,7 @@ use std::io::BufReader;
 use ttx_arguments::PlanOrder;
 use ttx_cycle::Counted;
 use ttx_plan::Receivers;
+use ttx_promise::Viewers;
 use ttx_tool::{ToolFault, commands};
 
 fn check_input(rt: &HostRuntime, input: Input) -> Result<u8, ToolFault> {
@@ -35,28 +36,47 @@ fn plan_to(
     commands::plan::run(rt.alloc(), reader, receivers, file, &mut writer)
 }
 
+// The same with spread rounds; the promises of the service are kept to viewers for whom each item is received right at once.
+fn plan_spread_to(
+    rt: &HostRuntime,
+    reader: &mut Counted<BufReader<Input>>,
+    receivers: Receivers,
+    file: &mut Counted<File>,
+) -> Result<u8, ToolFault> {
+    let mut writer = Counted::new(io::writer(rt));
+    let viewers = Viewers {
+        receivers,
+        repeat: 1,
+    };
+    commands::plan_spread::run(rt.alloc(), reader, viewers, file, &mut writer)
+}
+
 fn plan_input(
     rt: &HostRuntime,
     input: Input,
-    receivers: Receivers,
+    order: &PlanOrder<'_>,
     out: File,
 ) -> Result<u8, ToolFault> {
     let mut file = Counted::new(out);
     let Ok(mut reader) = buffered(rt, input) else {
         return Err(ToolFault::NoMemory);
     };
-    plan_to(rt, &mut reader, receivers, &mut file)
+    let receivers = Receivers {
+        class: order.class,
+        late: order.late,
+    };
+    if order.spread {
+        plan_spread_to(rt, &mut reader, receivers, &mut file)
+    } else {
+        plan_to(rt, &mut reader, receivers, &mut file)
+    }
 }
 
 /// Opens the service, makes the cycle's file anew, and plans.
 pub fn plan(rt: &HostRuntime, order: &PlanOrder<'_>) -> Outcome {
     let service = open_input(rt, order.service)?;
-    let receivers = Receivers {
-        class: order.class,
-        late: order.late,
-    };
     match create_out(rt, &[&service], order.out)? {
-        Some(file) => Ok(status_of(rt, plan_input(rt, service, receivers, file))),
+        Some(file) => Ok(status_of(rt, plan_input(rt, service, order, file))),
         None => Ok(report(rt, &ToolFault::Same)),
     }
 }

@@ -34,7 +34,7 @@ fn plan_text<R: Read>(
 }
 
 // The line that says how many slots a cycle has.
-fn planned_line(alloc: Global, count: usize) -> Result<String, AllocError>
+pub(super) fn planned_line(alloc: Global, count: usize) -> Result<String, AllocError>
     ensures { IfOk result (λ line. string_bytes line ≡ planned_line count) }
 {
     format!(in alloc; "planned {count} slots\n")

@@ -1,0 +1,55 @@
+//! What is read of the text of a service with promises.
+
+ghost use Rattle.std.specs.Prelude.{IfSome};
+ghost use Rattle.ttx_cycle.specs.Counters.{inner_of, faults_of};
+ghost use Rattle.ttx_tool.specs.Plan.{CountsDefinition};
+ghost use Rattle.ttx_tool.specs.Promised.{DefinesPromised, ReadsPromised};
+
+use crate::faults::ToolFault;
+use std::alloc::Global;
+use std::io::Read;
+use ttx_cycle::{Counted, MOST_BYTES, TextFault, read_text};
+use ttx_files::TextFile;
+use ttx_source::{Promise, Service, SourceError, read_promises, read_service};
+
+/// A service, and its promises.
+#[derive(Drop)]
+pub(super) struct Promised {
+    pub service: Service,
+    pub promises: Vec<Promise>,
+}
+
+// The service and the promises of a text.
+fn define(alloc: Global, text: &[u8]) -> Result<Promised, SourceError>
+    ensures { DefinesPromised text.now result }
+{
+    let service = match read_service(alloc, text) {
+        Ok(service) => service,
+        Err(error) => return Err(error),
+    };
+    match read_promises(alloc, text) {
+        Ok(promises) => Ok(Promised { service, promises }),
+        Err(error) => Err(error),
+    }
+}
+
+/// Reads the text of a service with its promises. A fault of the service comes before one of the promises.
+pub(super) fn read_promised<R: Read>(
+    alloc: Global,
+    reader: &mut Counted<R>,
+) -> Result<Promised, ToolFault>
+    ensures bytes { IfSome (R.remaining (inner_of reader.old)) (λ bytes. ReadsPromised bytes result) }
+    ensures faults { CountsDefinition result (faults_of reader.old) (faults_of reader.new) }
+{
+    let which = TextFile::Service;
+    let text = match read_text(alloc, reader, MOST_BYTES) {
+        Ok(text) => text,
+        Err(TextFault::Read) => return Err(ToolFault::Read { which }),
+        Err(TextFault::TooLong) => return Err(ToolFault::TooLong { which }),
+        Err(TextFault::NoMemory) => return Err(ToolFault::NoMemory),
+    };
+    match define(alloc, text.as_slice()) {
+        Ok(promised) => Ok(promised),
+        Err(error) => Err(ToolFault::Service(error)),
+    }
+}
