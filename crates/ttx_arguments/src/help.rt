@@ -320,9 +320,17 @@ The last line is one of
   all never bad-slot SLOT  the first slot that is not clean: nothing is
                            certified
 
+If pages have within in SERVICE, and without --items, the line of such a page is
+one of
+  PAGE F fields S s of G       in time: within is G fields
+  PAGE F fields S s late: P s  too late: within is P seconds
+  PAGE never .. late: P s      as above, and so too late
+and after the line of all pages comes, if CYCLE has pages that SERVICE lacks,
+  not in the service: PAGE ..
+
 Statuses:
-  0  there is a deadline for all pages
-  1  there is none
+  0  there is a deadline for all pages, and none is too late
+  1  there is none, or a page is too late
   2  error: .. (the arguments), refused: twice,
      refused: cycle NUMBER NAME [REST],
      refused: service NUMBER NAME [KEY] page N, refused: service too-long

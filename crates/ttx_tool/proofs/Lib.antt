@@ -16,6 +16,7 @@ mod ServiceIds
 mod ExtractInputs
 mod ReplayInputs
 mod ReadingBoth
+mod ReadingPromised
 mod ShownFile
 mod CertificateLengths
 mod NamedSlots

@@ -1,6 +1,7 @@
 -- What is told once the cycle and the service are read.
-use Rattle.std.proofs.Common.{ℕ, List, Option, Some, None}
+use Rattle.std.proofs.Common.{ℕ, List, length, map, Option, Some, None, sym, subst}
 use Rattle.std.specs.Prelude.{IfSome}
+use Rattle.std.proofs.lemmas.List.{length-map}
 use Rattle.ttx_files.specs.Texts.{IsServiceText}
 use Rattle.ttx_cycle.specs.Files.{IsPacketFile}
 use Rattle.ttx_page.specs.declared.class.Class.{Class}
@@ -8,7 +9,10 @@ use Rattle.ttx_source.specs.Services.{ServiceFields}
 use Rattle.ttx_deadline.specs.declared.finding.Asked.{Asked}
 use Rattle.ttx_tool.specs.Find.{IsFoundAndTold, IsFinding}
 use Rattle.ttx_tool.specs.FindDeadline.{IsAskedAndTold, IsAsked}
-use Rattle.ttx_tool.specs.Wait.{IsWaitOf, IsWaiting}
+use Rattle.ttx_source.specs.PromiseViews.{promise_view}
+use Rattle.ttx_source.specs.declared.promises.Promise.{Promise}
+use Rattle.ttx_tool.specs.Promised.{IsPromisedText}
+use Rattle.ttx_tool.specs.Wait.{shows_promises, IsWaitBeside, IsWaiting}
 use Rattle.ttx_wait.specs.declared.reports.Detail.{Detail}
 
 -- what follows of two inputs whose bytes are known
@@ -25,15 +29,26 @@ module _ (slots : List (List ℕ)) (service : ServiceFields) (repeat : ℕ) (cla
   found_of file line told = lifted (λ x y. IsPacketFile x slots × IsServiceText y service) (λ x y. IsFinding x y repeat class file line status) a b
       (λ x y is. record { slots = slots; service = service; cycle_is = is.0; service_is = is.1; told = told }) read
 
-  pub waiting_of : (detail : Detail) (text : List ℕ) → IsWaitOf slots service repeat class detail text status →
-      IfSome a (λ x. IfSome b (λ y. IsWaiting x y repeat class detail text status))
-  waiting_of detail text told = lifted (λ x y. IsPacketFile x slots × IsServiceText y service)
-      (λ x y. IsWaiting x y repeat class detail text status) a b
-      (λ x y is. record { slots = slots; service = service; cycle_is = is.0; service_is = is.1; told = told }) read
-
 pub asked_of : (slots : List (List ℕ)) (service : ServiceFields) (asked : Asked) (status : ℕ) (a b : Option (List ℕ)) →
     IfSome a (λ x. IfSome b (λ y. IsPacketFile x slots × IsServiceText y service)) → (file line : List ℕ) →
     IsAskedAndTold slots service asked file line status → IfSome a (λ x. IfSome b (λ y. IsAsked x y asked file line status))
 asked_of slots service asked status a b read file line told =
     lifted (λ x y. IsPacketFile x slots × IsServiceText y service) (λ x y. IsAsked x y asked file line status) a b
     (λ x y is. record { slots = slots; service = service; cycle_is = is.0; service_is = is.1; told = told }) read
+
+pub waiting_of : (slots : List (List ℕ)) (service : ServiceFields) (items : List Promise) (repeat : ℕ) (class : Class) (status : ℕ)
+    (a b : Option (List ℕ)) → IfSome a (λ x. IfSome b (λ y. IsPacketFile x slots × IsPromisedText y service (map promise_view items))) →
+    (detail : Detail) (text : List ℕ) →
+    IsWaitBeside (shows_promises (length items) detail) slots service (map promise_view items) repeat class detail text status →
+    IfSome a (λ x. IfSome b (λ y. IsWaiting x y repeat class detail text status))
+waiting_of slots service items repeat class status a b read detail text told =
+    lifted (λ x y. IsPacketFile x slots × IsPromisedText y service (map promise_view items)) (λ x y. IsWaiting x y repeat class detail text status) a b
+    (λ x y is. record {
+      slots = slots;
+      service = service;
+      cycle_is = is.0;
+      promises = map promise_view items;
+      service_is = is.1;
+      told = subst (λ n. IsWaitBeside (shows_promises n detail) slots service (map promise_view items) repeat class detail text status)
+          (sym (length-map items promise_view)) told;
+    }) read

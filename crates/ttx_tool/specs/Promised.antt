@@ -1,8 +1,9 @@
--- The text of a service with promises, and what `plan` with spread rounds writes for it.
+-- The text of a service with promises, alone and with a packet file, and what `plan` with spread rounds writes for it.
 --
 --   IsPromisedText          the service and the promises of a text
 --   IsPromisedFault, DefinesPromised        why a text has none, and what is answered for it
 --   IsNoPromisedText, ReadsPromised         the same of a text that is read
+--   IsNoPromisedInput, ReadsPromisedInputs  the same of a packet file and a text
 --   IsPromisedPlan, IsLatePlan      a plan that keeps each promise; the pages that come too late
 --   HasNoSpread, IsNoSpread         why a service, and a text, have no plan
 --   Spreads                 what is answered for a text
@@ -11,7 +12,8 @@ use Rattle.std.specs.Prelude.{◌≡◌, ◌⊎◌, ℕ, ◌≤◌, List, [], ma
 use Rattle.std.specs.Io.KnownBytes.{Keeps}
 use Rattle.ttx_cycle.specs.Bounded.{most_bytes}
 use Rattle.ttx_cycle.specs.Cycles.{slots_of}
-use Rattle.ttx_cycle.specs.Files.{IsCycle, file_of}
+use Rattle.ttx_cycle.specs.Files.{IsCycle, IsPacketFile, file_of}
+use Rattle.ttx_cycle.specs.Reading.{Judged}
 use Rattle.ttx_files.specs.Texts.{IsServiceText}
 use Rattle.ttx_plan.specs.Spread.{IsTooLongSpread}
 use Rattle.ttx_plan.specs.declared.faults.PlanFault.{PlanFault}
@@ -32,8 +34,9 @@ use Rattle.ttx_tool.specs.Reports.{Reports}
 use Rattle.ttx_tool.specs.declared.commands.plan_spread.Spread.{Spread}
 use Rattle.ttx_tool.specs.declared.commands.plan_spread.Spread.TheVariants as spread
 use Rattle.ttx_tool.specs.declared.commands.promised.Promised.{Promised}
+use Rattle.ttx_tool.specs.declared.commands.promised.PromisedInputs.{PromisedInputs}
 use Rattle.ttx_tool.specs.declared.faults.ToolFault.{ToolFault}
-use Rattle.ttx_tool.specs.declared.faults.ToolFault.TheVariants.{Service, Write, NoMemory, Plan}
+use Rattle.ttx_tool.specs.declared.faults.ToolFault.TheVariants.{Cycle, Service, Write, NoMemory, Plan}
 
 pub record IsPromisedText (bytes : List ℕ) (service : ServiceFields) (promises : List PromiseFields) : Type 0 where
   pub text : IsServiceText bytes service
@@ -58,6 +61,18 @@ IsNoPromisedText bytes fault = IsNoText bytes fault
 abbrev pub ReadsPromised : List ℕ → Result Promised ToolFault → Type 0
 ReadsPromised bytes (Ok promised) = IsPromisedText bytes promised.service (map promise_view promised.promises.items)
 ReadsPromised bytes (Err fault) = IsNoPromisedText bytes fault
+
+-- why nothing is read of a packet file and the text of a service with promises
+abbrev pub IsNoPromisedInput : List ℕ → List ℕ → ToolFault → Type 0
+IsNoPromisedInput a b (Cycle fault) = Judged a (Err fault)
+IsNoPromisedInput a b NoMemory = ⊤
+IsNoPromisedInput a b fault = (slots : List (List ℕ)) × IsPacketFile a slots × IsNoPromisedText b fault
+
+abbrev pub ReadsPromisedInputs : List ℕ → List ℕ → Result PromisedInputs ToolFault → Type 0
+ReadsPromisedInputs a b (Ok inputs) =
+    IsPacketFile a (slots_of inputs.cycle)
+    × IsPromisedText b inputs.promised.service (map promise_view inputs.promised.promises.items)
+ReadsPromisedInputs a b (Err fault) = IsNoPromisedInput a b fault
 
 -- a plan of the service, in which pages that have a promise may be sent more often, keeps each promise
 pub record IsPromisedPlan (bytes : List ℕ) (v : Viewers) (slots : List (List ℕ)) : Type 0 where

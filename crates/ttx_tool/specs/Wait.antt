@@ -1,24 +1,28 @@
 -- What `wait` writes for a packet file and the text of a service.
 --
 --   wait_status             0 where there is a deadline for all pages, else 1
---   IsWaitOf, IsWaiting     what is told of a cycle and a service, and of their texts
+--   shows_promises          whether waits stand beside promises
+--   IsWaitOf, IsPromisedWaitOf, IsWaitBeside        what is told of a cycle and a service; beside its promises; either of both
+--   IsWaiting               the same of their texts
 --   WaitsText               what is answered for them
 --   Waits                   what was written at each answer
 --   CountsWait              faults of devices are answered only where they were counted
-use Rattle.std.specs.Prelude.{◌≡◌, ℕ, ◌<◌, List, length, take, string_bytes, ⊤, Option, Some, None, Result, Ok, Err}
+use Rattle.std.specs.Prelude.{◌≡◌, ℕ, ◌<◌, nat_lt, Bool, true, false, if◌then◌else◌, List, length, take, string_bytes, ⊤, Option, Some, None, Result, Ok, Err}
 use Rattle.std.specs.Io.KnownBytes.{Appends, Keeps}
 use Rattle.ttx_cycle.specs.Files.{IsPacketFile}
-use Rattle.ttx_files.specs.Texts.{IsServiceText}
 use Rattle.ttx_cycle.specs.Counts.{HasRisen}
 use Rattle.ttx_cycle.specs.declared.faults.CycleFault.TheVariants as cycle
 use Rattle.ttx_page.specs.declared.class.Class.{Class}
+use Rattle.ttx_promise.specs.PromisedReports.{IsPromisedReport}
+use Rattle.ttx_source.specs.Promises.{PromiseFields}
 use Rattle.ttx_source.specs.Services.{ServiceFields, pages_of}
-use Rattle.ttx_tool.specs.Find.{IsNoFinding}
+use Rattle.ttx_tool.specs.Promised.{IsPromisedText, IsNoPromisedInput}
 use Rattle.ttx_tool.specs.declared.commands.writing.Told.{Told}
 use Rattle.ttx_tool.specs.declared.faults.ToolFault.{ToolFault}
 use Rattle.ttx_tool.specs.declared.faults.ToolFault.TheVariants.{Cycle, Read, Write, Counter}
 use Rattle.ttx_wait.specs.Reports.{IsReportWith}
 use Rattle.ttx_wait.specs.declared.reports.Detail.{Detail}
+use Rattle.ttx_wait.specs.declared.reports.Detail.TheVariants as detail
 
 abbrev pub wait_status : Option ℕ → ℕ
 wait_status None = 1
@@ -31,24 +35,42 @@ pub record IsWaitOf (slots : List (List ℕ)) (service : ServiceFields) (repeat 
   pub report : IsReportWith detail slots (pages_of service) class repeat service.lines text deadline
   pub status_is : status ≡ wait_status deadline
 
+-- they do where there are some, and no items are asked for
+abbrev pub shows_promises : ℕ → Detail → Bool
+shows_promises count detail.Pages = nat_lt 0 count
+shows_promises count detail.Items = false
+
+-- the lines beside promises; the status is 0 only if no page comes too late
+pub record IsPromisedWaitOf (slots : List (List ℕ)) (service : ServiceFields) (promises : List PromiseFields) (repeat : ℕ) (class : Class)
+    (text : List ℕ) (status : ℕ) : Type 0 where
+  pub deadline : Option ℕ
+  pub late : Bool
+  pub report : IsPromisedReport slots service class repeat promises text deadline late
+  pub status_is : status ≡ (if late then 1 else wait_status deadline)
+
+abbrev pub IsWaitBeside : Bool → List (List ℕ) → ServiceFields → List PromiseFields → ℕ → Class → Detail → List ℕ → ℕ → Type 0
+IsWaitBeside true slots service promises repeat class detail text status = IsPromisedWaitOf slots service promises repeat class text status
+IsWaitBeside false slots service promises repeat class detail text status = IsWaitOf slots service repeat class detail text status
+
 -- the same of a packet file and the text of a service
 pub record IsWaiting (a b : List ℕ) (repeat : ℕ) (class : Class) (detail : Detail) (text : List ℕ) (status : ℕ) : Type 0 where
   pub slots : List (List ℕ)
   pub service : ServiceFields
   pub cycle_is : IsPacketFile a slots
-  pub service_is : IsServiceText b service
-  pub told : IsWaitOf slots service repeat class detail text status
+  pub promises : List PromiseFields
+  pub service_is : IsPromisedText b service promises
+  pub told : IsWaitBeside (shows_promises (length promises) detail) slots service promises repeat class detail text status
 
 abbrev pub WaitsText : List ℕ → List ℕ → ℕ → Class → Detail → Result Told ToolFault → Type 0
 WaitsText a b repeat class detail (Ok told) = IsWaiting a b repeat class detail (string_bytes told.text) told.status
-WaitsText a b repeat class detail (Err fault) = IsNoFinding a b fault
+WaitsText a b repeat class detail (Err fault) = IsNoPromisedInput a b fault
 
 -- Ok: the lines went out. A write fault: their first `written` bytes. Else nothing, and why there is no cycle or no service.
 abbrev pub Waits : List ℕ → List ℕ → ℕ → Class → Detail → Option (List ℕ) → Option (List ℕ) → Result ℕ ToolFault → Type 0
 Waits a b repeat class detail old new (Ok status) = (text : List ℕ) × IsWaiting a b repeat class detail text status × Appends old new text
 Waits a b repeat class detail old new (Err (Write written)) =
     (text : List ℕ) × (status : ℕ) × IsWaiting a b repeat class detail text status × (written < length text) × Appends old new (take written text)
-Waits a b repeat class detail old new (Err fault) = IsNoFinding a b fault × Keeps old new
+Waits a b repeat class detail old new (Err fault) = IsNoPromisedInput a b fault × Keeps old new
 
 -- the faults counted by the readers of the cycle and of the service, and by the writer
 abbrev pub CountsWait : {T : Type 0} → Result T ToolFault → ℕ → ℕ → ℕ → ℕ → ℕ → ℕ → Type 0

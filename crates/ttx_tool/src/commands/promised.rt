@@ -1,14 +1,15 @@
-//! What is read of the text of a service with promises.
+//! What is read of the text of a service with promises, alone and after a packet file.
 
 ghost use Rattle.std.specs.Prelude.{IfSome};
 ghost use Rattle.ttx_cycle.specs.Counters.{inner_of, faults_of};
+ghost use Rattle.ttx_tool.specs.Find.{CountsInputs};
 ghost use Rattle.ttx_tool.specs.Plan.{CountsDefinition};
-ghost use Rattle.ttx_tool.specs.Promised.{DefinesPromised, ReadsPromised};
+ghost use Rattle.ttx_tool.specs.Promised.{DefinesPromised, ReadsPromised, ReadsPromisedInputs};
 
 use crate::faults::ToolFault;
 use std::alloc::Global;
 use std::io::Read;
-use ttx_cycle::{Counted, MOST_BYTES, TextFault, read_text};
+use ttx_cycle::{Counted, Cycle, MOST_BYTES, TextFault, read_cycle, read_text};
 use ttx_files::TextFile;
 use ttx_source::{Promise, Service, SourceError, read_promises, read_service};
 
@@ -17,6 +18,13 @@ use ttx_source::{Promise, Service, SourceError, read_promises, read_service};
 pub(super) struct Promised {
     pub service: Service,
     pub promises: Vec<Promise>,
+}
+
+/// A cycle, and a service with its promises.
+#[derive(Drop)]
+pub(super) struct PromisedInputs {
+    pub cycle: Cycle,
+    pub promised: Promised,
 }
 
 // The service and the promises of a text.
@@ -51,5 +59,25 @@ pub(super) fn read_promised<R: Read>(
     match define(alloc, text.as_slice()) {
         Ok(promised) => Ok(promised),
         Err(error) => Err(ToolFault::Service(error)),
+    }
+}
+
+/// Reads a packet file and the text of a service with its promises, in this order.
+pub(super) fn read_promised_inputs<A: Read, B: Read>(
+    alloc: Global,
+    cycle: &mut Counted<A>,
+    service: &mut Counted<B>,
+) -> Result<PromisedInputs, ToolFault>
+    ensures bytes { IfSome (A.remaining (inner_of cycle.old))
+        (λ a. IfSome (B.remaining (inner_of service.old)) (λ b. ReadsPromisedInputs a b result)) }
+    ensures faults { CountsInputs result (faults_of cycle.old) (faults_of cycle.new) (faults_of service.old) (faults_of service.new) }
+{
+    let cycle = match read_cycle(alloc, cycle) {
+        Ok(cycle) => cycle,
+        Err(fault) => return Err(ToolFault::Cycle(fault)),
+    };
+    match read_promised(alloc, service) {
+        Ok(promised) => Ok(PromisedInputs { cycle, promised }),
+        Err(fault) => Err(fault),
     }
 }

@@ -1,20 +1,22 @@
-//! `wait`: how long viewers of each page of a service wait.
+//! `wait`: how long viewers of each page of a service wait, beside what it promises.
 
-ghost use Rattle.std.specs.Prelude.{◌≡◌, ◌≤◌, IfSome, IfOk, string_bytes};
+ghost use Rattle.std.specs.Prelude.{◌≡◌, ◌≤◌, length, map, IfSome, IfOk, string_bytes};
 ghost use Rattle.ttx_cycle.specs.Counters.{inner_of, faults_of};
 ghost use Rattle.ttx_cycle.specs.Cycles.{slots_of};
 ghost use Rattle.ttx_files.specs.Answers.{IsUntouched};
 ghost use Rattle.ttx_tool.specs.FilesFaults.{is_tool_write};
 ghost use Rattle.ttx_tool.specs.Find.{CountsInputs};
-ghost use Rattle.ttx_tool.specs.Wait.{wait_status, IsWaitOf, WaitsText, Waits, CountsWait};
+ghost use Rattle.ttx_source.specs.PromiseViews.{promise_view};
+ghost use Rattle.ttx_tool.specs.Wait.{wait_status, shows_promises, IsWaitOf, IsPromisedWaitOf, IsWaitBeside, WaitsText, Waits, CountsWait};
 
-use super::inputs::read_inputs;
+use super::promised::{Promised, read_promised_inputs};
 use super::writing::{Told, write_text};
 use crate::faults::ToolFault;
 use std::alloc::Global;
 use std::io::{Read, Write};
 use ttx_cycle::{Counted, Cycle};
 use ttx_page::Class;
+use ttx_promise::report_promises;
 use ttx_source::Service;
 use ttx_wait::{Detail, report_with};
 use ttx_witness::NoMemory;
@@ -64,6 +66,67 @@ fn tell(
     })
 }
 
+// Whether the waits stand beside so many promises.
+fn shows_promises(count: usize, detail: Detail) -> bool
+    ensures { result ≡ shows_promises count detail }
+{
+    match detail {
+        Detail::Pages => count > 0,
+        Detail::Items => false,
+    }
+}
+
+// What is told of a cycle and a service beside its promises.
+fn tell_promised(
+    alloc: Global,
+    cycle: &Cycle,
+    promised: &Promised,
+    question: Question,
+) -> Result<Told, NoMemory>
+    requires some { 1 ≤ question.repeat }
+    requires few { question.repeat ≤ 8 }
+    ensures { IfOk result (λ told. IsPromisedWaitOf (slots_of cycle.now) promised.now.service (map promise_view promised.now.promises.items)
+        question.repeat question.class (string_bytes told.text) told.status) }
+{
+    let report = report_promises(
+        alloc,
+        cycle,
+        &promised.service,
+        question.class,
+        question.repeat,
+        &promised.promises,
+    )?;
+    let status = if report.late {
+        1
+    } else {
+        wait_status(report.deadline)
+    };
+    Ok(Told {
+        text: report.text,
+        status,
+    })
+}
+
+// What is told of a cycle and a service, which may have promises.
+fn tell_beside(
+    alloc: Global,
+    cycle: &Cycle,
+    promised: &Promised,
+    question: Question,
+) -> Result<Told, NoMemory>
+    requires some { 1 ≤ question.repeat }
+    requires few { question.repeat ≤ 8 }
+    ensures { IfOk result (λ told. IsWaitBeside (shows_promises (length promised.now.promises.items) question.detail) (slots_of cycle.now)
+        promised.now.service (map promise_view promised.now.promises.items) question.repeat question.class question.detail
+        (string_bytes told.text) told.status) }
+{
+    if shows_promises(promised.promises.len(), question.detail) {
+        tell_promised(alloc, cycle, promised, question)
+    } else {
+        tell(alloc, cycle, &promised.service, question)
+    }
+}
+
 // The same for a packet file and the text of a service.
 fn wait_text<A: Read, B: Read>(
     alloc: Global,
@@ -77,19 +140,20 @@ fn wait_text<A: Read, B: Read>(
         (λ a. IfSome (B.remaining (inner_of service.old)) (λ b. WaitsText a b question.repeat question.class question.detail result)) }
     ensures faults { CountsInputs result (faults_of cycle.old) (faults_of cycle.new) (faults_of service.old) (faults_of service.new) }
 {
-    let inputs = match read_inputs(alloc, cycle, service) {
+    let inputs = match read_promised_inputs(alloc, cycle, service) {
         Ok(inputs) => inputs,
         Err(fault) => return Err(fault),
     };
-    match tell(alloc, &inputs.cycle, &inputs.service, question) {
+    match tell_beside(alloc, &inputs.cycle, &inputs.promised, question) {
         Ok(told) => Ok(told),
         Err(_) => Err(ToolFault::NoMemory),
     }
 }
 
 /// Reads a packet file and the text of a service, and writes how long viewers of each page of the service wait, and what they
-/// wait for, to receivers of the class, in the lines that `detail` asks for; `repeat` is 1 to 8. The status is 0 where there is a
-/// deadline for all pages, else 1.
+/// wait for, to receivers of the class, in the lines that `detail` asks for; `repeat` is 1 to 8. If the service has promises and no items
+/// are asked for, the waits stand beside them, and a last line has the pages that are not in the service. The status is 0 if there is a
+/// deadline for all pages and none comes too late for its promise, otherwise 1.
 ///
 /// Nothing is written before all is told. At `Write` exactly the first `written` bytes of the lines went out; at each other
 /// fault the writer is as it was.
