@@ -31,7 +31,6 @@ ttx:
 
 test:
 	python3 tools/progress.py out/test.log rt ci
-	python3 tools/refusals.py out/test.log
 	$(MAKE) --no-print-directory --jobs $$(nproc) --output-sync $(SCRIPTS)
 
 $(filter %.py,$(SCRIPTS)):
