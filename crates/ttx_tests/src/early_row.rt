@@ -1,11 +1,10 @@
 //! A row that is sent less than a field after its header, which a receiver may miss.
 
 use crate::base;
-use crate::lost_rows::marked;
+use crate::lost_rows::{marked, page_100};
 use std::alloc::{AllocError, Global};
 use std::test::Fail;
 use ttx_certify::receive;
-use ttx_page::Selection;
 use ttx_receiver::{Careful, Eager, Receiver, Scripted};
 use ttx_render::{cell_word, render};
 
@@ -34,10 +33,12 @@ fn first_of_row_1<R: Receiver + Drop>(mut receiver: R, slots: &[[u8; 42]]) -> u3
 #[test]
 fn a_row_too_early_for_some(rt: HostRuntime) -> Result<(), Fail> {
     let slots = slots(rt.alloc())?;
-    let (slots, any) = (slots.as_slice(), Selection::AnySub(1, 0));
-    assert!(rt; first_of_row_1(Eager::new(any, 2, marked()), slots) == SPACE);
-    assert!(rt; first_of_row_1(Careful::new(any, 2, marked()), slots) == AN_X);
-    assert!(rt; first_of_row_1(Scripted::new(any, 2, marked(), &[true]), slots) == SPACE);
-    assert!(rt; first_of_row_1(Scripted::new(any, 2, marked(), &[true, true]), slots) == AN_X);
+    let slots = slots.as_slice();
+    assert!(rt; first_of_row_1(Eager::new(page_100(), 2, marked()), slots) == SPACE);
+    assert!(rt; first_of_row_1(Careful::new(page_100(), 2, marked()), slots) == AN_X);
+    assert!(rt; first_of_row_1(Scripted::new(page_100(), 2, marked(), &[true]), slots) == SPACE);
+    assert!(rt;
+        first_of_row_1(Scripted::new(page_100(), 2, marked(), &[true, true]), slots) == AN_X
+    );
     Ok(())
 }

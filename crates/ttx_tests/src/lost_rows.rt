@@ -34,11 +34,15 @@ fn shown<R: Receiver + Drop>(mut receiver: R, slots: &[[u8; 42]]) -> [u32; 2] {
     [cell_word(&row[0]) & 0x7f, cell_word(&row[1]) & 0x7f]
 }
 
+// Page 100 with any subcode.
+pub(crate) fn page_100() -> Selection {
+    Selection::AnySub(1, 0)
+}
+
 // Whether each kind of receiver that takes row 1 at once shows these characters.
 fn is_shown_by_all(slots: &[[u8; 42]], wanted: [u32; 2]) -> bool {
-    let any = Selection::AnySub(1, 0);
-    shown(Scripted::new(any, 2, marked(), &[]), slots) == wanted
-        && shown(Careful::new(any, 2, marked()), slots) == wanted
+    shown(Scripted::new(page_100(), 2, marked(), &[]), slots) == wanted
+        && shown(Careful::new(page_100(), 2, marked()), slots) == wanted
 }
 
 // The worked cycle, row 1 with a byte of even parity in one place.
@@ -129,9 +133,8 @@ fn a_lost_header_leaves_the_row_of_another_page(rt: HostRuntime) {
 #[test]
 fn a_receiver_that_clears_keeps_the_row(rt: HostRuntime) {
     let header = beginning(&HEADER_101);
-    let any = Selection::AnySub(1, 0);
-    let with = Cleared::new(any, 2, PageMemory::blank());
+    let with = Cleared::new(page_100(), 2, PageMemory::blank());
     assert!(rt; shown(with, &left_out(header)) == [SPACE, SPACE]);
-    let without = Cleared::new(any, 2, PageMemory::blank());
+    let without = Cleared::new(page_100(), 2, PageMemory::blank());
     assert!(rt; shown(without, &left_out([0; 42])) == [AN_A, AN_A]);
 }

@@ -3,11 +3,11 @@
 use std::alloc::{AllocError, Global};
 use std::test::Fail;
 use ttx_cycle::Cycle;
-use ttx_page::{Item, Selection};
+use ttx_page::Selection;
 use ttx_source::{Service, read_service};
 use ttx_subpages::{
-    Lack, NumbersVerdict, certify_numbers, count_of, first_lack, greatest_interval, least_stay,
-    number_reports, numbers_verdict_text,
+    NumbersVerdict, certify_numbers, count_of, greatest_interval, least_stay, number_reports,
+    numbers_verdict_text,
 };
 use ttx_witness::{Certificate, read_certificate};
 
@@ -150,19 +150,5 @@ fn stays_and_intervals(rt: HostRuntime) -> Result<(), Fail> {
     assert!(rt; greatest_interval(&cycle, Selection::AnySub(1, 0)) == 8);
     assert!(rt; least_stay(&cycle, Selection::AnySub(1, 1)) == None);
     assert!(rt; greatest_interval(&cycle, Selection::AnySub(1, 1)) == 0);
-    let Ok(None) = first_lack(rt.alloc(), &cycle, service.pages(), 1) else {
-        panic!(rt; "something lacks");
-    };
-    let lacks = first_lack(rt.alloc(), &cycle, service.pages(), 2);
-    assert!(rt;
-        matches!(
-            lacks,
-            Ok(Some(Lack::Unwhole {
-                item: Item::Links,
-                slot: 0,
-                ..
-            }))
-        )
-    );
     Ok(())
 }
