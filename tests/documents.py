@@ -1,10 +1,12 @@
 #!/usr/bin/env python3
-"""Runs each example of README.md and docs/ word for word, and compares its output. Checks that the links, files, calls, commands and
-options that the documents name exist, and that figures quoted from docs/MEASURED.md are there. (recipes.sh runs the blocks of
+"""Runs each example of README.md and docs/ word for word, and compares its output. Checks that the links, files, calls, clauses, laws,
+definitions, mutants, commands and options that the documents name exist; that each name of docs/CONTRACTS.md stands in the crate of its
+row; that figures quoted from docs/MEASURED.md are there; and the table of waits in docs/SERVICE.md. (recipes.sh runs the blocks of
 docs/RECIPES.md, and turns.sh the loop of docs/SPLICES.md.)
 
-usage: documents.py PROGRAM
+usage: documents.py [PROGRAM] (without PROGRAM only what needs none is checked)
 """
+import functools
 import os
 import re
 import shutil
@@ -80,16 +82,104 @@ def named_files(document):
             yield name, TOP / "crates" / name
 
 
-def named_calls(document):
-    """The calls that a document names as `ttx_certify::certify`, or `ttx_certify::laws::runs_are_seen`: crate and last name."""
-    for crate, name in re.findall(r"`(ttx_[a-z_]+)::(?:[a-z_]+::)*([A-Za-z_0-9]+)`", document.read_text()):
-        yield crate, name
+@functools.cache
+def source_of(crate, folder="src"):
+    """The sources of a crate as one text."""
+    return "\n".join(file.read_text() for file in sorted((TOP / "crates" / crate / folder).rglob("*.rt")))
 
 
 def is_defined(crate, name):
-    """Whether a crate has a function, type or module with this name."""
-    item = re.compile(rf"\b(?:fn|struct|enum|trait|mod|const|use .*::)\s*{name}\b")
-    return any(item.search(file.read_text()) for file in (TOP / "crates" / crate / "src").rglob("*.rt"))
+    """Whether a crate has a public function, type or module with this name, or a trait with such a method."""
+    item = rf"\bpub (?:const )?(?:fn|struct|enum|trait|mod|use .*::)\s*{name}\b|^    fn {name}\b"
+    return re.search(item, source_of(crate), re.M) is not None
+
+
+@functools.cache
+def contract_of(crate, name):
+    """The heads of all functions of a crate with this name: arguments and clauses."""
+    return " ".join(re.findall(rf"\bfn {name}\b(.*?)(?=\n *\{{|\bfn |\Z)", source_of(crate), re.S))
+
+
+def clauses_of(crate, name):
+    """The names of the clauses of all functions of a crate with this name."""
+    return set(re.findall(r"\bensures ([a-z_]+) \{", contract_of(crate, name)))
+
+
+@functools.cache
+def defined_in(path):
+    """The definitions of a file."""
+    item = r"^\s*(?:(?:abbrev|unfoldable)(?: pub)?|(?:pub )?(?:record|data)) ([^\s:({]+)"
+    return set(re.findall(item, path.read_text(), re.M)) if path.exists() else set()
+
+
+def unknown_calls(document):
+    """The calls `ttx_certify::certify` or `ttx_certify::laws::runs_are_seen` (`exact`, `seen`) of a document that do not exist, or lack a clause."""
+    called = r"`(ttx_[a-z_]+)::(?:[a-z_]+::)*([A-Za-z_0-9]+)`((?: \(`[a-z_]+`(?:, `[a-z_]+`)*\))?)"
+    for crate, name, clauses in re.findall(called, document.read_text()):
+        if not is_defined(crate, name):
+            yield f"no call {crate}::{name}"
+        for clause in re.findall(r"`([a-z_]+)`", clauses):
+            if clause not in clauses_of(crate, name):
+                yield f"{crate}::{name} has no clause {clause}"
+
+
+def index_rows(text):
+    """The rows of an index of promises: crate, calls with their clauses, definitions."""
+    for line in text.splitlines():
+        cells = [cell.strip() for cell in line.strip("|").split("|")]
+        if line.startswith("| ") and len(cells) == 4 and cells[1] != "crate":
+            yield f"ttx_{cells[1]}", cells[2], cells[3]
+
+
+def indexed_calls(calls):
+    """The calls of a row, each with the names after its colon: clauses, or methods of a type."""
+    for group in calls.split(";"):
+        before, _, after = group.partition("`:") if "`:" in group else (group, "", "")
+        names = re.findall(r"`([A-Za-z_0-9:]+)`", before + "`")
+        for name in names:
+            yield name.split("::")[-1], re.findall(r"`([a-z_0-9]+)`", after)
+
+
+def definitions_of(crate, cell):
+    """The files of definitions that a row names."""
+    for name in re.findall(r"`([A-Za-z_/]+)`", cell or "`Laws`"):
+        owner, _, rest = name.partition("/")
+        yield TOP / (f"crates/{owner}/specs/{rest}.antt" if owner.startswith("ttx_") else f"crates/{crate}/specs/{name}.antt")
+
+
+def unknown_in_index(text):
+    """The names of an index of promises that do not stand where their row says, and calls whose contract names none of the row's definitions."""
+    for crate, calls, cell in index_rows(text):
+        files = [*definitions_of(crate, cell)]
+        yield from (f"no definitions {file}" for file in files if not file.exists())
+        defined = set().union(*map(defined_in, [*files, TOP / f"crates/{crate}/specs/Laws.antt"]))
+        for name, further in indexed_calls(calls):
+            if not is_defined(crate, name):
+                yield f"no call {name} in {crate}"
+            of_type = name[0].isupper()
+            known = {method for method in further if is_defined(crate, method)} if of_type else clauses_of(crate, name)
+            yield from (f"{crate}: {name} has no {other}" for other in further if other not in known)
+            for call in further if of_type else [name]:
+                if not defined & set(re.findall(r"[\w-]+", contract_of(crate, call))):
+                    yield f"{crate}: the contract of {call} names none of the definitions of its row"
+
+
+@functools.cache
+def known_words():
+    """All words of the sources, definitions, proofs, mutants, tests and tools."""
+    files = [file for end in ("rt", "antt", "edit") for file in (TOP / "crates").rglob(f"*.{end}")]
+    files += [file for part in ("tests", "tools", "bench", "demo", "examples") for file in (TOP / part).rglob("*") if file.is_file()]
+    words = {file.name for file in files} | {file.stem for file in files}
+    for file in files:
+        words.update(re.findall(r"[A-Za-z_0-9]+(?:-[A-Za-z_0-9]+)*", file.read_text(errors="replace")))
+    return words
+
+
+def unknown_terms(document):
+    """The names in backticks, of several words, that stand nowhere in the repository: definitions, laws, functions, cases, mutants."""
+    for name in re.findall(r"`([A-Za-z][A-Za-z_0-9]*(?:-[A-Za-z_0-9]+)*)`", document.read_text()):
+        if re.search(r"_|-|[a-z][A-Z]", name) and name not in known_words() and not re.match(r"ttx_|NAME", name):
+            yield name
 
 
 def named_options(document):
@@ -103,18 +193,18 @@ def named_options(document):
 def unknown_names(document, helps):
     """The names in a document that do not exist."""
     told = [f"no file {name}" for name, path in named_files(document) if not path.exists()]
-    told += [f"no call {crate}::{name}" for crate, name in named_calls(document) if not is_defined(crate, name)]
+    told += [*unknown_calls(document), *(f"no name {name}" for name in unknown_terms(document))]
     told += [f"{command} has no {option}" for command, option in named_options(document)
              if command in helps and option not in helps[command]]
     return told
 
 
 def unmeasured(document):
-    """The figures in lines that refer to MEASURED.md, if MEASURED.md does not have them."""
-    measured = (TOP / "docs/MEASURED.md").read_text()
+    """The figures of two digits or more in lines that refer to MEASURED.md, if MEASURED.md does not have them."""
+    measured = set(re.findall(r"\d[\d,.]*\d", (TOP / "docs/MEASURED.md").read_text()))
     for line in document.read_text().splitlines():
         if "(docs/MEASURED.md)" in line or "](MEASURED.md)" in line:
-            for figure in re.findall(r"\b\d[\d,]*\d{2}\b", re.sub(r"EN 300 706|`[^`]*`", "", line)):
+            for figure in re.findall(r"\d[\d,.]*\d", re.sub(r"EN 300 706|`[^`]*`", "", line)):
                 if figure not in measured:
                     yield figure
 
@@ -127,17 +217,15 @@ def help_texts(program):
     return {command: told([command]) for command in commands if command != "help"}
 
 
-def main():
-    program, failed, count = Path(sys.argv[1]).resolve(), 0, 0
-    documents = [TOP / "README.md", *sorted((TOP / "docs").glob("*.md")), TOP / "tests/README.md"]
-    helps = help_texts(program)
+def failed_examples(documents, program):
+    """How many examples there are, and what is wrong with them."""
+    count, faults = 0, []
     with tempfile.TemporaryDirectory() as name:
         folder = Path(name)
         words = made(folder, program)
         before = run(BEFORE, folder, words)
         if before.returncode or before.stderr:
-            failed += 1
-            print(f"FAILED what the examples need: {before.stderr[-200:]}")
+            faults.append(f"what the examples need: {before.stderr[-200:]}")
         for document in documents:
             for command, lines in examples(document.read_text()):
                 count += 1
@@ -145,17 +233,35 @@ def main():
                 printed = (done.stdout + done.stderr).splitlines()
                 # a no has status 1, and a mistake that check reports has status 2: both print a line
                 if printed != lines or done.returncode > 2 or (done.returncode and not lines) or (done.returncode == 2 and "check" not in command):
-                    failed += 1
-                    print(f"FAILED {command}: status {done.returncode}, it prints {printed[:3]}, and {document.name} has {lines[:3]}")
+                    faults.append(f"{command}: status {done.returncode}, it prints {printed[:3]}, and {document.name} has {lines[:3]}")
+    return count, faults
+
+
+def index_faults():
+    """What is wrong in docs/CONTRACTS.md, and whether this check finds a wrong clause, law and file."""
+    text = (TOP / "docs/CONTRACTS.md").read_text()
+    yield from unknown_in_index(text)
+    if len([*index_rows(text)]) < 70:
+        yield "an index of less than 70 rows"
+    for right, wrong in ("`certify`: `exact`", "`certify`: `exakt`"), ("`runs_are_seen`", "`runs_were_seen`"), ("`Verdicts`", "`Verdict`"), ("`Glyphs`", "`Laws`"):
+        if right not in text or not [*unknown_in_index(text.replace(right, wrong, 1))]:
+            yield f"{wrong} in the place of {right} is not noticed"
+
+
+def main():
+    program = Path(sys.argv[1]).resolve() if len(sys.argv) > 1 else None
+    documents = [TOP / "README.md", *sorted((TOP / "docs").glob("*.md")), TOP / "tests/README.md"]
+    count, faults = failed_examples(documents, program) if program else (0, [])
+    helps = help_texts(program) if program else {}
+    faults += [f"CONTRACTS.md: {fault}" for fault in index_faults()]
     for document in documents:
-        faults = [f"no file {link}" for link in dead_links(document)]
-        faults += unknown_names(document, helps)
-        faults += [f"{figure} isn't in MEASURED.md" for figure in unmeasured(document)]
-        for fault in faults:
-            failed += 1
-            print(f"FAILED {document.name}: {fault}")
-    print(f"documents: {count} examples, {failed} failed")
-    return 1 if failed or count < 18 else 0
+        faults += [f"{document.name}: no file {link}" for link in dead_links(document)]
+        faults += [f"{document.name}: {fault}" for fault in unknown_names(document, helps)]
+        faults += [f"{document.name}: {figure} isn't in MEASURED.md" for figure in unmeasured(document)]
+    for fault in faults:
+        print(f"FAILED {fault}")
+    print(f"documents: {count} examples, {len(faults)} failed")
+    return 1 if faults or (program and count < 18) else 0
 
 
 if __name__ == "__main__":
