@@ -142,7 +142,7 @@ def indexed_calls(calls):
 
 def definitions_of(crate, cell):
     """The files of definitions that a row names."""
-    for name in re.findall(r"`([A-Za-z_/]+)`", cell or "`Laws`"):
+    for name in re.findall(r"`([A-Za-z_/]+)`", cell):
         owner, _, rest = name.partition("/")
         yield TOP / (f"crates/{owner}/specs/{rest}.antt" if owner.startswith("ttx_") else f"crates/{crate}/specs/{name}.antt")
 
