@@ -77,12 +77,13 @@ fn piece_bytes<N: Newsroom, L: Write>(
     bytes
 }
 
-/// Puts a service on the air, for so many fields: the first edition, period after period, until the newsroom hands out one that takes over.
+/// Puts a service on the air for the fields of `airtime`: the first edition, period after period, until the newsroom hands out one that takes
+/// over.
 ///
-/// Fields have as many lines as the first certificate says, and page headers and packets 8/30 carry the time of their field. At the end of each
-/// period, once the edition on the air has been sent for a deadline, the newsroom is asked. What it hands out takes over if the change serves
-/// the receivers; otherwise the edition on the air stays. The log has a line for each. A log that fails, or want of memory at a change, does not
-/// stop the air. If a write of packets fails, exactly the first `written` bytes have been written.
+/// A field has the lines of the first certificate, and page headers and packets 8/30 carry the time of their field. At the end of each period,
+/// once the edition on the air has been sent for a deadline, the newsroom is asked. Its edition takes over if the change serves the receivers;
+/// otherwise the edition on the air stays. The log has a line for each. A failed write of the log, or a lack of memory at a change, does not
+/// stop the air. If a write of packets fails, exactly the first `written` bytes went out.
 pub fn air<N: Newsroom, L: Write, W: Write>(
     alloc: Global,
     first: Candidate,

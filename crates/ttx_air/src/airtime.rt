@@ -1,4 +1,4 @@
-//! What an airing is to be.
+//! When an airing begins, how long it lasts, and whom it serves.
 
 use ttx_send::Moment;
 
@@ -7,7 +7,7 @@ use ttx_send::Moment;
 pub enum Receivers {
     /// Those that show rows as they come.
     AtOnce,
-    /// Those that show a page late, too. At most `gap` slots after each header of a page the next header of its magazine has to come, with
+    /// Those that show a page late, too. At most `gap` slots after each header of a page the next header of its magazine must come, with
     /// another page number.
     Late { gap: usize },
 }

@@ -16,6 +16,6 @@ pub enum News {
     Nothing,
     /// There is a next edition.
     Next(Candidate),
-    /// There is a new text, which is no edition. The words say why, in one line.
+    /// There is a new text, but it makes no edition. The words say why, in one line.
     Refused { mark: String, words: String },
 }

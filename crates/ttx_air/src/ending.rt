@@ -1,4 +1,4 @@
-//! The end of a period.
+//! What happens at the end of a period.
 
 ghost use Rattle.std.specs.Prelude.{◌≡◌, ◌<◌, ◌/◌, ◌++◌, ◌∷◌, [], Some, codes, true};
 ghost use Rattle.ttx_proof.specs.declared.verdict.SpliceVerdict.TheVariants.{Yes};

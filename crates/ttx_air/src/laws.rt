@@ -24,14 +24,14 @@ pub fn air_is_shown()
     ttx_playout::laws::sent_so_far_is_shown();
 }
 
-/// So are the pages of what a call of `air` left behind.
+/// The same of what a call of `air` has sent.
 pub fn airing_is_seen<N: Newsroom>()
     ensures { AiringIsSeen N.gives }
 {
     air_is_seen();
 }
 
-/// And on receivers that show a page late, if `air` served them.
+/// The same for receivers that show a page late, if the call served them.
 pub fn airing_is_shown<N: Newsroom>()
     ensures { AiringIsShown N.gives }
 {

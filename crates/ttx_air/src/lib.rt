@@ -1,4 +1,4 @@
-//! A service on the air: the editions that a newsroom hands out follow one another where each viewer is served.
+//! A service on the air: an edition that a newsroom hands out takes over if the change serves the receivers; the log says what happened.
 #![tactic(auto)]
 
 mod airing;

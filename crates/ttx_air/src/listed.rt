@@ -1,4 +1,4 @@
-//! A newsroom that is a list.
+//! A newsroom that answers from a list.
 
 ghost use Rattle.std.specs.Prelude.{◌≡◌, map};
 ghost use Rattle.ttx_air.specs.Newsrooms.{news_of};
@@ -9,14 +9,14 @@ use crate::newsroom::Newsroom;
 use std::alloc::Global;
 use ttx_playout::Edition;
 
-/// A newsroom that gives the answers of a list, the last one of the list first, and then has nothing.
+/// A newsroom that gives the answers of a list, from its end to its beginning, and then has nothing new.
 #[derive(Drop)]
 pub struct Listed {
     news: Vec<News>,
 }
 
 impl Listed {
-    /// A newsroom of these answers.
+    /// A newsroom with these answers.
     pub fn new(news: Vec<News>) -> Listed
         ensures { answers_of result ≡ map news_of news.items }
     {

@@ -12,8 +12,8 @@ use ttx_playout::Edition;
 
 /// What hands out the editions of a service: a file that an author saves, or a list in a test.
 ///
-/// `gives` relates the newsroom before a call, the edition on the air, the field, the answer, and the newsroom after the call. A newsroom of
-/// which nothing is known beforehand has a relation that always holds.
+/// `gives` relates the newsroom before a call, the edition on the air, the field, the answer, and the newsroom after the call. If nothing is
+/// known of a newsroom in advance, the relation always holds.
 pub trait Newsroom {
     ghost gives: { Self → schedule.Edition → ℕ → offers.News → Self → Type 0 };
 

@@ -1,4 +1,4 @@
-//! The certificate that is found, with a deadline that is asked for.
+//! Finds a certificate with a deadline that is asked for.
 
 ghost use Rattle.std.specs.Prelude.{◌≡◌, ◌≤◌, IfOk};
 ghost use Rattle.ttx_cycle.specs.Cycles.{slots_of};
@@ -14,12 +14,12 @@ use ttx_page::Class;
 use ttx_source::Service;
 use ttx_witness::{Certificate, NoMemory};
 
-/// What certificate is asked for.
+/// The certificate that is asked for.
 #[derive(Clone, Copy)]
 pub struct Asked {
     /// The class of receivers.
     pub class: Class,
-    /// How often an item is sent for one right reception, 1 to 8.
+    /// The repeat count, 1 to 8: of so many successive transmissions of a character one arrives right.
     pub repeat: u8,
     /// The deadline in fields, 1 to 1,000,000.
     pub deadline: u32,
@@ -32,9 +32,9 @@ pub struct FoundWith {
     pub verdict: Verdict,
 }
 
-/// The certificate that `find_service` finds, with the deadline that is asked for in the place of the least, and the verdict on it: Yes
-/// exactly where the least deadline is at most the one that is asked for, else the first reason why the cycle isn't accepted with it. So two
-/// certificates can have one deadline. `Err` if memory runs out.
+/// The certificate that `find_service` finds, with the deadline that is asked for instead of the least, and the verdict on it: Yes exactly
+/// if the least deadline is at most the one that is asked for, otherwise the first reason why the cycle is not accepted with it. So two
+/// editions can have certificates with one deadline, as `splice` requires. `Err` if memory runs out.
 pub fn find_with(
     alloc: Global,
     cycle: &Cycle,

@@ -1,4 +1,4 @@
-//! Certificates with a deadline that is asked for: a cycle is found to be accepted with it, or a certificate has to promise it.
+//! A deadline that is asked for: `find_with` makes a certificate with it, `certify_required` requires it of a certificate.
 #![tactic(auto)]
 
 mod copies;

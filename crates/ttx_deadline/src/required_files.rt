@@ -1,4 +1,4 @@
-//! Certifies files with a requirement: a packet file, a service definition and a certificate.
+//! Certifies a packet file, a service definition and a certificate, with a requirement.
 
 ghost use Rattle.std.specs.Prelude.{◌≡◌, ◌∷◌, [], IfSome, IfOk, string_bytes};
 ghost use Rattle.ttx_cycle.specs.Counters.{inner_of, faults_of};
@@ -76,12 +76,10 @@ fn judge_files<A: Read, B: Read, C: Read>(
     }
 }
 
-/// Reads a packet file, the text of a service and that of a certificate, in this order, certifies the pages of the service, of whose
-/// certificate a deadline of at most so many fields may be required, and writes the line of the verdict. What it means `certify_required`
-/// says.
+/// Reads a packet file, a service definition and a certificate, in this order, and writes the line of the verdict of `certify_required` on
+/// them.
 ///
-/// Nothing is written before all is judged. At `Write` exactly the first `written` bytes of the line went out; at each other
-/// fault the writer is as it was, whatever the readers tell.
+/// At `Write` exactly the first `written` bytes of the line went out; at any other fault nothing is written, whatever the readers gave.
 pub fn certify_files_required<A: Read, B: Read, C: Read, W: Write>(
     alloc: Global,
     cycle: &mut Counted<A>,

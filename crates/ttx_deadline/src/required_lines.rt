@@ -36,7 +36,7 @@ fn unmet_line(alloc: Global, unmet: Unmet) -> Result<String, AllocError>
     Ok(text)
 }
 
-/// The line of a verdict on so many pages, ended by 0A: that of `certify`, or `no lines L of M` and `no deadline D of E`.
+/// The line of a verdict, ended by 0A: that of `certify`, or `no lines L of M` or `no deadline D of E`.
 pub fn required_line(
     alloc: Global,
     certificate: &Certificate,

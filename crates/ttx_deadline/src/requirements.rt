@@ -1,4 +1,4 @@
-//! What a certificate has to promise of a service: its lines of a field, and a deadline.
+//! What may be required of a certificate: the lines of the service, and a deadline.
 
 ghost use Rattle.std.specs.Prelude.{◌≡◌, IfOk};
 ghost use Rattle.ttx_cycle.specs.Cycles.{slots_of};
@@ -12,28 +12,28 @@ use ttx_cycle::Cycle;
 use ttx_source::Service;
 use ttx_witness::{Certificate, NoMemory, Reason};
 
-/// What a certificate doesn't promise.
+/// The requirement that a certificate does not meet.
 #[derive(Clone, Copy)]
 pub enum Unmet {
-    /// Its lines of a field aren't those of the service.
+    /// It has another number of lines in a field than the service.
     Lines { certificate: u8, service: u8 },
     /// Its deadline is later than the one that is required, both in fields.
     Deadline { certificate: u32, required: u32 },
 }
 
-/// The verdict on a certificate from which a deadline may be required.
+/// The verdict on a certificate of which a deadline may be required.
 #[derive(Clone, Copy)]
 pub enum RequiredVerdict {
     /// The cycle is accepted, and the certificate promises what is required.
     Yes,
     /// The first reason why the cycle isn't accepted with the certificate.
     No(Reason),
-    /// The cycle is accepted, but the certificate doesn't promise this.
+    /// The cycle is accepted, but the certificate does not meet this requirement.
     Unmet(Unmet),
 }
 
-/// The first requirement that a certificate doesn't meet: the lines of the service, and a deadline of at most so many fields. `None` if
-/// it meets both.
+/// The first requirement that a certificate does not meet: the lines of the service, then a deadline of at most `required` fields. `None`
+/// if it meets both.
 pub fn first_unmet(service: &Service, certificate: &Certificate, required: u32) -> Option<Unmet>
     ensures { result ≡ rule.first_unmet service.now.lines (fields_of certificate.now) required }
 {
@@ -74,9 +74,9 @@ fn required_verdict(verdict: Verdict, unmet: Option<Unmet>) -> RequiredVerdict
     }
 }
 
-/// The verdict of `certify` on the pages of a service, from whose certificate a deadline of at most so many fields may be required. A No
-/// is that of `certify`; after a Yes the certificate has to have the lines of the service, and a deadline in time. A Yes where a deadline
-/// is required means both, and that each page is seen. `Err` if memory runs out.
+/// The verdict of `certify` on the pages of a service; if `required` is given, the certificate must also have the lines of the service and
+/// a deadline of at most that many fields. A No is that of `certify`, and comes first. A Yes with `required` means all of this, and that
+/// each page is seen. `Err` if memory runs out.
 pub fn certify_required(
     alloc: Global,
     cycle: &Cycle,

@@ -17,7 +17,7 @@ pub enum TextFile {
 /// Why files are not read or written, numbered from 1 in this order.
 #[derive(Clone, Copy, Debug, Error)]
 pub enum FilesFault {
-    /// 1. The packet file isn't read.
+    /// 1. The packet file could not be read, or is refused.
     #[error("{0}")]
     Cycle(CycleFault),
     /// 2. The text isn't a service definition.
@@ -35,7 +35,7 @@ pub enum FilesFault {
     /// 6. A write failed. The first `written` bytes of the line went out, and no more.
     #[error("a write failed after {written} bytes")]
     Write { written: usize },
-    /// 7. A growth was refused.
+    /// 7. An allocation failed.
     #[error("out of memory")]
     NoMemory,
 }

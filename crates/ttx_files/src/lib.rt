@@ -1,4 +1,4 @@
-//! The files of a command: reading packet files, service definitions and certificates, and writing what is answered.
+//! The files of a command: it reads packet files, service definitions and certificates, and writes lines and OUT.
 #![tactic(auto)]
 
 mod faults;

@@ -100,7 +100,7 @@ pub fn read_witness<R: Read>(
     }
 }
 
-/// Reads a service definition and then a certificate. The second is not read where the first is refused.
+/// Reads a service definition, then a certificate. The second is not read if the first is refused.
 pub fn read_texts<A: Read, B: Read>(
     alloc: Global,
     service: &mut Counted<A>,
@@ -126,7 +126,7 @@ pub fn read_texts<A: Read, B: Read>(
     }
 }
 
-/// Reads a packet file and then a service definition. The second is not read where the first is refused.
+/// Reads a packet file, then a service definition. The second is not read if the first is refused.
 pub fn read_served<A: Read, B: Read>(
     alloc: Global,
     cycle: &mut Counted<A>,

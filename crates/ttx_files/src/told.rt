@@ -1,4 +1,4 @@
-//! What is told of files: a verdict and its line.
+//! The answer to files: a verdict and its line.
 
 ghost use Rattle.ttx_cycle.specs.Counters.{inner_of, faults_of};
 ghost use Rattle.ttx_files.specs.Answers.{IsUntouched, is_write};
@@ -9,15 +9,15 @@ use crate::writers::write_line;
 use std::io::Write;
 use ttx_cycle::Counted;
 
-/// A verdict, and the line that tells it.
+/// A verdict, and its line.
 #[derive(Drop)]
 pub struct Told<V> {
     pub verdict: V,
     pub line: String,
 }
 
-/// Writes the line of what is told, and answers the verdict. Where a fault is told nothing is written, and that fault is answered.
-/// At `Write` exactly the first `written` bytes of the line went out.
+/// Writes the line and returns the verdict. A fault is returned as it is, and nothing is written. At `Write` exactly the first `written`
+/// bytes of the line went out.
 pub fn write_told<V: Drop, W: Write>(
     told: Result<Told<V>, FilesFault>,
     writer: &mut Counted<W>,

@@ -20,8 +20,8 @@ pub fn write_line<W: Write>(writer: &mut Counted<W>, line: &[u8]) -> Result<(), 
     }
 }
 
-/// Writes the bytes of a file, and then a line to another writer. At `Write` exactly the first `written` bytes of both together went
-/// out; the line is not begun before the file is whole.
+/// Writes the bytes of a file, then a line to another writer. At `Write` exactly the first `written` bytes of both together went out; the
+/// line begins only after the whole file.
 pub fn write_both<O: Write, W: Write>(
     file: &mut Counted<O>,
     bytes: &[u8],

@@ -1,4 +1,4 @@
-//! Moments of the air, from instants, ISO times and zones.
+//! The moment at which a sending begins, from an instant and a time zone, or from an ISO text.
 #![tactic(auto)]
 
 mod instants;

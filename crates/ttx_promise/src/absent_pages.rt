@@ -1,4 +1,4 @@
-//! Pages that are on the air, and not in the service.
+//! Pages on the air that the service does not have.
 
 ghost use Rattle.std.specs.Prelude.{◌≡◌, ◌++◌, IfOk, OnOk, map, string_bytes};
 ghost use Rattle.std.specs.List.{list_any};
@@ -52,7 +52,7 @@ fn push_other(others: &mut Vec<PageId>, pages: &[Page], slot: &[u8; 42]) -> Resu
     }
 }
 
-/// The pages of the headers of a cycle that are none of these pages, by rising page numbers. `Err` if memory runs out.
+/// The pages that have a header in a cycle and are not in the list, by rising page numbers. `Err` if memory runs out.
 pub fn other_pages(
     alloc: Global,
     slots: &[[u8; 42]],
@@ -79,7 +79,7 @@ fn push_ids(text: &mut String, ids: &[PageId]) -> Result<(), AllocError>
     Ok(())
 }
 
-/// Appends the line of pages that aren't in the service; nothing where there is none.
+/// Appends the line that names the pages missing from the service; nothing if there is none.
 pub fn push_others(text: &mut String, others: &[PageId]) -> Result<(), AllocError>
     ensures { OnOk result (string_bytes text.new ≡ string_bytes text.old ++ rule.others_text others.now) }
 {

@@ -6,9 +6,9 @@ use ttx_header::PageId;
 #[derive(Clone, Copy)]
 pub struct LatePage {
     pub page: PageId,
-    /// The fields that a viewer waits at most.
+    /// The most fields that a viewer waits.
     pub fields: u32,
-    /// The fields within which the viewer is to see it.
+    /// The fields within which a viewer is to see it.
     pub promise: u32,
 }
 
@@ -19,8 +19,8 @@ pub enum PromiseFault {
     NoPages,
     /// The cycle might have more than 65,536 slots, each page sent as often as the service says.
     TooLong,
-    /// Some promises can't be kept: the pages that come too late in the last plan, in the order of the promises.
+    /// Some promises are not kept: the pages that come too late in the last plan, in the order of the promises.
     Late { pages: Vec<LatePage> },
-    /// A growth was refused.
+    /// An allocation failed.
     NoMemory,
 }

@@ -1,4 +1,4 @@
-//! Which pages come too late.
+//! Which pages come too late for their promises.
 
 ghost use Rattle.std.specs.Prelude.{◌≡◌, ◌++◌, IfOk, OnOk, MatchOption, map, slice_get, slice_index_or};
 ghost use Rattle.ttx_promise.specs.Lateness as rule;
@@ -51,7 +51,7 @@ fn weight_at(service: &Service, deadlines: &[u32], promises: &[Promise], number:
     }
 }
 
-/// The index of the page of the promise with this number; 0 where there is none.
+/// The index of the page to which the promise with this number belongs; 0 if there is no such promise.
 pub fn page_at(promises: &[Promise], number: usize) -> usize
     ensures { result ≡ rule.page_at (map promise_view promises.now) number }
 {
@@ -61,8 +61,8 @@ pub fn page_at(promises: &[Promise], number: usize) -> usize
     }
 }
 
-/// The number of the first of the promises whose page comes the most fields too late, of those that may be sent more often;
-/// `None` where there is none.
+/// Of the promises whose page comes too late and may be sent more often, the number of the one whose page is late by the most fields, the
+/// first of equals; `None` if there is none.
 pub fn latest(service: &Service, deadlines: &[u32], promises: &[Promise]) -> Option<usize>
     ensures { MatchOption result
         (rule.NoneMayRise service.now.pages deadlines.now (map promise_view promises.now))

@@ -1,7 +1,7 @@
 //! Where the packets of a spread plan stand, without the packets.
 //!
-//! It follows the rules of `plan_spread`, so that the waits of a plan are known without making it. Nothing rests on it: a plan is judged
-//! by its cycle. A mistake here would cost time, or choose other pages.
+//! It follows the rules of `plan_spread`, so that the waits of a plan are known before it is made. No promise rests on it, since the plan is
+//! judged by its cycle: a mistake here would cost time, or raise other pages.
 
 ghost use Rattle.std.specs.Prelude.{◌≤◌};
 

@@ -1,4 +1,4 @@
-//! Spread plans that keep the promises of a service: each page that is to be seen within some seconds is sent as often as that takes.
+//! Spread plans that keep the promises of a service (`within`): pages that would come too late are sent more often.
 //! And reports on how long viewers wait, beside what is promised.
 #![tactic(auto)]
 

@@ -1,4 +1,4 @@
-//! The slots of the packets of a spread plan in parallel transmission: magazines send by turns.
+//! Where the packets of a spread plan stand in parallel transmission: magazines take turns.
 
 ghost use Rattle.std.specs.Prelude.{◌<◌, length, IfSome};
 

@@ -32,18 +32,18 @@ pub struct Viewers {
 pub enum Improved {
     /// Each promise is kept.
     Kept,
-    /// The page that is the latest is sent twice as often, in this plan.
+    /// This plan sends the latest page twice as often.
     Raised { cycle: Cycle },
-    /// No page that comes too late can be sent more often; these come too late.
+    /// These pages come too late, and none of them can be sent more often.
     Late { pages: Vec<LatePage> },
 }
 
-/// Why a plan doesn't keep each promise.
+/// Why a plan does not keep each promise.
 #[derive(Drop)]
 pub enum Missed {
-    /// These come too late.
+    /// These pages come too late.
     Late { pages: Vec<LatePage> },
-    /// A growth was refused.
+    /// An allocation failed.
     NoMemory,
 }
 
@@ -210,16 +210,16 @@ fn keep_promises(
     }
 }
 
-/// The spread plan of a service that keeps each promise: a viewer of the page sees it within so many fields. Pages that have a promise and
-/// no key `often` are sent as often as that takes: as long as such a page comes too late, the one that comes the most fields too late,
-/// the first of them, is sent twice as often, up to 8 times. The service is then the one that the plan is of.
+/// A spread plan of a service that keeps each promise: for each promised page alone the cycle is accepted with a deadline of at most its
+/// promise, in fields. As long as pages come too late, the one that is late by the most fields, the first of equals, is sent twice as
+/// often, up to 8 times in a cycle. Only pages with a promise and without a key `often` are sent more often. `service` becomes the service
+/// of the plan.
 ///
-/// `Late` where a promise can't be kept: the latest page that may be sent more often would make the cycle too long, or there is none. The
-/// service is that of the last plan. `NoPages` and `TooLong` as `plan_spread` of the service as it was given, which is unchanged. After
-/// `NoMemory` nothing is known of the service.
+/// `Late` if a promise is not kept: to send the latest page more often would make the cycle too long, or no late page may be sent more
+/// often. `service` is then that of the last plan. `NoPages` and `TooLong` are those of `plan_spread`, and `service` is unchanged. After
+/// `NoMemory` nothing is known of `service`.
 ///
-/// The waits at each step are those of the layout of the plan. The plan is made and judged by its waits at the end, and the steps go on with
-/// those as long as a page comes too late.
+/// A search over layouts comes first. Its plan is judged by the waits of its cycle, and further steps go by these waits.
 pub fn plan_promises(
     alloc: Global,
     service: &mut Service,

@@ -17,7 +17,7 @@ use ttx_source::{Promise, Service};
 use ttx_wait::{deadline_of, greatest, push_all};
 use ttx_witness::{NoMemory, bad_slot, waits};
 
-/// A report: its lines, the least deadline in fields for all pages, if there is one, and whether a page comes too late for its promise.
+/// A report: its lines, the least deadline in fields for all pages, if there is one, and whether some page breaks its promise.
 #[derive(Drop)]
 pub struct PromisedReport {
     pub text: String,
@@ -44,9 +44,9 @@ fn lines(
     Ok(text)
 }
 
-/// How long a viewer of each page of a service waits, in lines of text: a page with a promise says `F fields S s of G`, G in fields, or
-/// `F fields S s late: P s` where it comes too late; one without a promise has the line of `wait`, and so has all of them. Pages that are on
-/// the air and not in the service stand in a last line. `repeat` is 1 to 8. `Err` if memory runs out.
+/// How long a viewer of each page of a service waits, as lines of text. The line of a page with a promise ends with `F fields S s of G`
+/// (G in fields), or with `F fields S s late: P s` if it comes too late. Pages without a promise, and all pages together, have the lines of
+/// `wait`. A last line names the pages on the air that the service does not have. `repeat` is 1 to 8. `Err` if memory runs out.
 pub fn report_promises(
     alloc: Global,
     cycle: &Cycle,

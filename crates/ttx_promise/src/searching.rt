@@ -1,4 +1,4 @@
-//! How often pages are to be sent, by the waits that their layout gives: a search that makes no plan.
+//! How often pages are to be sent: a search over layouts, which makes no plan.
 
 ghost use Rattle.std.specs.Prelude.{◌≡◌, ◌<◌, true, length, map, IfOk};
 ghost use Rattle.std.specs.List.{All};
@@ -27,7 +27,7 @@ pub fn oftens(alloc: Global, service: &Service) -> Result<Vec<u8>, AllocError>
     Ok(oftens)
 }
 
-/// Sends each page so often.
+/// Sets how often each page is sent.
 pub fn set_oftens(service: &mut Service, oftens: &[u8])
     requires count { length oftens.now ≡ length service.old.pages }
     requires often { All (λ often. is_often often ≡ true) oftens.now }
@@ -100,7 +100,7 @@ fn go_on(
     }
 }
 
-/// Sends the page that is the latest twice as often, by the waits that the layout gives, as long as one is late and the cycle fits.
+/// As long as a page is late by its layout and the cycle fits, sends the latest page twice as often.
 pub fn search(
     alloc: Global,
     service: &mut Service,

@@ -1,4 +1,4 @@
-//! The slots of the packets of a spread plan in serial transmission.
+//! Where the packets of a spread plan stand in serial transmission.
 
 ghost use Rattle.std.specs.Prelude.{◌≤◌};
 
@@ -31,7 +31,7 @@ impl Frame {
         }
     }
 
-    /// So many slots and those that are missing to a whole field.
+    /// These slots, rounded up to whole fields.
     pub fn filled(self, slots: u32) -> u32 {
         let lines = self.lines.max(1);
         slots.div_ceil(lines).wrapping_mul(lines)

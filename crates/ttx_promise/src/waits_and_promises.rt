@@ -1,4 +1,4 @@
-//! How long viewers wait for pages, beside the promises of these pages.
+//! How long viewers wait for pages, beside what is promised of them.
 
 ghost use Rattle.std.specs.Prelude.{◌≡◌, ◌≤◌, IfOk, map};
 ghost use Rattle.std.specs.List.{list_any};
@@ -13,7 +13,7 @@ use ttx_page::Class;
 use ttx_source::{Promise, Service};
 use ttx_witness::{NoMemory, PageWait, Wait, waits};
 
-/// How long a viewer of a page waits, and within how many fields the page is to be seen, where it has a promise.
+/// How long a viewer of a page waits, and the promise of the page in fields, if it has one.
 #[derive(Clone, Copy)]
 pub struct PromisedWait {
     pub told: PageWait,
@@ -32,7 +32,7 @@ fn is_later(wait: Wait, promise: u32) -> bool
 }
 
 impl PromisedWait {
-    /// Whether the page comes too late: it has a promise, and a viewer waits longer or has no deadline.
+    /// Whether the page comes too late: it has a promise, and a viewer waits longer, or no deadline is enough.
     pub fn is_late(&self) -> bool
         ensures { result ≡ rule.is_late self.now }
     {
@@ -74,15 +74,15 @@ pub(crate) fn with_promises(
     Ok(all)
 }
 
-/// Whether a page comes too late.
+/// Whether some page comes too late.
 pub fn some_late(all: &[PromisedWait]) -> bool
     ensures { result ≡ list_any rule.is_late all.now }
 {
     all.iter().any(|one| one.is_late())
 }
 
-/// How long a viewer of each page of a service waits, as `waits` says, with the promise of the page: in authored order. `repeat` is 1 to 8.
-/// `Err` if memory runs out.
+/// The wait of each page of a service (see `ttx_witness::waits`) with its promise, in authored order. `repeat` is 1 to 8. `Err` if memory
+/// runs out.
 pub fn promised_waits(
     alloc: Global,
     cycle: &Cycle,

@@ -128,7 +128,7 @@ fn lack_among(sendings: &Sendings) -> Option<Lack>
 }
 
 /// The first header of a number with several pages under which not all of its page comes, or which is of none of these pages; of its
-/// page the first such item. `None` where the subpages of each such number are sent whole. Ids of pages are distinct.
+/// page the first such item. `None` if the subpages of each such number are sent whole. Ids of pages are distinct.
 pub fn first_lack(
     alloc: Global,
     cycle: &Cycle,

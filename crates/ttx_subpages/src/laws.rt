@@ -55,7 +55,7 @@ pub fn accepted_are_held()
     ttx_page::laws::steady_sends_its_own();
 }
 
-/// A planned cycle sends each subpage whole, to receivers that do not surely clear a page.
+/// A planned cycle of class any sends each subpage whole.
 pub fn planned_send_whole()
     ensures { PlannedSendWhole }
 {
@@ -64,7 +64,7 @@ pub fn planned_send_whole()
     ttx_plan::whole_blocks::planned_blocks_are_whole();
 }
 
-/// So the subpages of a cycle that is planned for receivers which show a page late, too, are seen in turn.
+/// So the subpages of a cycle planned with `--late` are seen in turn.
 pub fn planned_are_seen()
     ensures { PlannedAreSeen }
 {
@@ -77,12 +77,12 @@ pub fn stays_are_shown()
     ensures { StaysAreShown }
 {}
 
-/// Each receiver that shows a page only where it ends makes something of each list of slots.
+/// Each receiver that shows a page only where it ends has a run over each list of slots.
 pub fn each_list_runs_ended()
     ensures { EachListRunsEnded }
 {}
 
-/// Where the repeat count is 2, what is shown may be a mixture: a worked example.
+/// With repeat count 2 what is shown may be a mixture of two subpages: a worked example.
 pub fn repeat_two_may_mix()
     ensures { IsMixed }
 {

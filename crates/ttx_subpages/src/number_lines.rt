@@ -119,8 +119,8 @@ fn lack_text(alloc: Global, lack: Lack) -> Result<String, NoMemory>
     }
 }
 
-/// The text of a verdict on so many pages: the line of a Yes, and a line for each number in `reports`; or the line of the No. Each line
-/// ends with the byte 0A. `Err` if memory runs out.
+/// The text of a verdict: the line of a Yes, and a line for each number in `reports`; or the line of the No. Each line ends with the byte
+/// 0A. `Err` if memory runs out.
 pub fn numbers_verdict_text(
     alloc: Global,
     certificate: &Certificate,

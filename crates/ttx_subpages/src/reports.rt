@@ -1,4 +1,4 @@
-//! What is said of each number with several pages.
+//! What is reported of each number with several pages.
 
 ghost use Rattle.std.specs.Prelude.{◌≡◌, ◌+◌, ◌++◌, ◌∷◌, ◌<◌, [], IfOk, OnOk, length, map};
 ghost use Rattle.ttx_page.specs.Streams.{repeated};
@@ -70,7 +70,7 @@ fn note(
     Ok(())
 }
 
-/// What is said of each number with several pages, in the order of its first page.
+/// The report on each number with several pages, in the order of its first page.
 pub fn number_reports(
     alloc: Global,
     cycle: &Cycle,

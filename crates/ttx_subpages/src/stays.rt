@@ -104,8 +104,8 @@ fn lengthened(slots: &[[u8; 42]], at: usize, selection: &Selection, most: usize)
     interval
 }
 
-/// The most slots from a header that the selection matches to the next one; 0 if the cycle has none. In any so many slots, and those of
-/// a block, a receiver that shows a page where it ends, set to the number, shows the subpage once.
+/// The most slots from a header that the selection matches to the next one; 0 if the cycle has none. In that many slots and those of a
+/// block, a receiver that shows a page where it ends, set to the number, shows the subpage once.
 pub fn greatest_interval(cycle: &Cycle, selection: Selection) -> usize
     ensures { IsGreatestInterval (repeated (slots_of cycle.now)) selection result }
 {
