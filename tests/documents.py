@@ -1,8 +1,9 @@
 #!/usr/bin/env python3
 """Runs each example of README.md and docs/ word for word, and compares its output. Checks that the links, files, calls, clauses, laws,
 definitions, mutants, commands and options that the documents name exist; that each name of docs/CONTRACTS.md stands in the crate of its
-row; that figures quoted from docs/MEASURED.md are there; and the table of waits in docs/SERVICE.md. (recipes.sh runs the blocks of
-docs/RECIPES.md, and turns.sh the loop of docs/SPLICES.md.)
+row, in a contract that the definitions of the row state; that crates stand where docs/LAYERS.md says; that figures quoted from
+docs/MEASURED.md are there; and the table of waits in docs/SERVICE.md. (recipes.sh runs the blocks of docs/RECIPES.md, and turns.sh the
+loop of docs/SPLICES.md.)
 
 usage: documents.py [PROGRAM] (without PROGRAM only what needs none is checked)
 """
@@ -209,6 +210,68 @@ def unmeasured(document):
                     yield figure
 
 
+def crates():
+    """Each crate with the crates on which it stands, by crates.txt."""
+    lines = (TOP / "crates.txt").read_text().splitlines()
+    return {name: below.split() for name, below in (line.split(":") for line in lines if ":" in line)}
+
+
+def listed(document, start):
+    """The names of crates in the line of a document that begins or goes on with these words."""
+    line = next((line for line in (TOP / document).read_text().splitlines() if start in line), "")
+    return {name for name in re.findall(r"[a-z_]+", line.partition(start)[2])}
+
+
+def wrong_crates():
+    """Crates that docs/LAYERS.md, docs/CONTRACTS.md and README.md do not place as crates.txt does."""
+    stands = crates()
+    used, left = {"ttx"}, ["ttx"]
+    while left:
+        below = [name for name in stands.get(left.pop(), []) if name not in used]
+        used.update(below)
+        left += below
+    spoken = set(re.findall(r"^- \*\*(ttx\w*)\*\*", (TOP / "docs/LAYERS.md").read_text(), re.M))
+    yield from (f"LAYERS.md and crates.txt differ in {name}" for name in sorted(spoken ^ set(stands)))
+    unused = set(stands) - used - {"ttx_tests"}
+    for document, start in ("docs/LAYERS.md", "No command uses"), ("README.md", "used by no command yet**"):
+        said = {name for name in listed(document, start) if name.startswith("ttx_")}
+        yield from (f"{document}: whether a command uses {name}" for name in sorted(said ^ unused))
+    indexed = {crate for crate, _, _ in index_rows((TOP / "docs/CONTRACTS.md").read_text())}
+    yield from (f"CONTRACTS.md has no row of {name}" for name in sorted(set(stands) - indexed - {"ttx", "ttx_tests"}))
+    outside = {name for name in used if not name.startswith("ttx")}
+    yield from (f"README.md does not say that {name} is trusted" for name in sorted(outside - listed("README.md", "**Trusted**")))
+
+
+def wrong_files(document):
+    """The definitions named in lists such as "- ttx_page: `Pages`, `Views`; ttx_code: `Words`" that are not in these crates."""
+    for line in re.findall(r"^- (ttx_.*)", document.read_text(), re.M):
+        for crate, names in re.findall(r"(ttx_\w+): ((?:`[\w/]+`(?:, )?)+)", line):
+            for name in re.findall(r"`([\w/]+)`", names):
+                if not (TOP / f"crates/{crate}/specs/{name}.antt").exists():
+                    yield f"no definitions {name} in {crate}"
+
+
+def waits_when_spread(count, often, folder, words):
+    """The seconds that viewers of the first of so many full pages wait in a spread plan, and viewers of the others."""
+    numbers = [f"{100 + at}" for at in range(count)]
+    pages = "".join(f'[[page]]\nnumber = "{number}"\noften = {often if number == "100" else 1}\n' for number in numbers)
+    (folder / "full.toml").write_text(f"lines = 12\nserial = true\n{pages}")
+    done = run("ttx plan full.toml full.t42 --spread && ttx wait full.t42 full.toml", folder, words)
+    return re.findall(r"^(?:100/0000|all) \d+ fields ([\d.]+) s", done.stdout, re.M)
+
+
+def wrong_waits(folder, words):
+    """The rows of the table of docs/SERVICE.md with other waits than spread plans give."""
+    rows = re.findall(r"^\| (\d+) \| [\d.]+ \| ([\d.]+) \| ([\d.]+) \| ([\d.]+) \| ([\d.]+) \|$", (TOP / "docs/SERVICE.md").read_text(), re.M)
+    for count, *said in rows:
+        waits = [waits_when_spread(int(count), often, folder, words) for often in (2, 4, 8)]
+        found = [wait for wait, *_ in waits] + waits[-1][1:]
+        if found != said:
+            yield f"SERVICE.md: {count} pages wait {found}, not {said}"
+    if len(rows) < 3:
+        yield "SERVICE.md: no table of waits"
+
+
 def help_texts(program):
     """The help text of each command."""
     def told(words):
@@ -234,6 +297,7 @@ def failed_examples(documents, program):
                 # a no has status 1, and a mistake that check reports has status 2: both print a line
                 if printed != lines or done.returncode > 2 or (done.returncode and not lines) or (done.returncode == 2 and "check" not in command):
                     faults.append(f"{command}: status {done.returncode}, it prints {printed[:3]}, and {document.name} has {lines[:3]}")
+        faults += wrong_waits(folder, words)
     return count, faults
 
 
@@ -243,7 +307,8 @@ def index_faults():
     yield from unknown_in_index(text)
     if len([*index_rows(text)]) < 70:
         yield "an index of less than 70 rows"
-    for right, wrong in ("`certify`: `exact`", "`certify`: `exakt`"), ("`runs_are_seen`", "`runs_were_seen`"), ("`Verdicts`", "`Verdict`"), ("`Glyphs`", "`Laws`"):
+    changes = ("`certify`: `exact`", "`certify`: `exakt`"), ("`runs_are_seen`", "`runs_were_seen`"), ("`Verdicts`", "`Verdict`"), ("`Glyphs`", "`Lib`")
+    for right, wrong in changes:
         if right not in text or not [*unknown_in_index(text.replace(right, wrong, 1))]:
             yield f"{wrong} in the place of {right} is not noticed"
 
@@ -253,10 +318,10 @@ def main():
     documents = [TOP / "README.md", *sorted((TOP / "docs").glob("*.md")), TOP / "tests/README.md"]
     count, faults = failed_examples(documents, program) if program else (0, [])
     helps = help_texts(program) if program else {}
-    faults += [f"CONTRACTS.md: {fault}" for fault in index_faults()]
+    faults += [*(f"CONTRACTS.md: {fault}" for fault in index_faults()), *wrong_crates()]
     for document in documents:
         faults += [f"{document.name}: no file {link}" for link in dead_links(document)]
-        faults += [f"{document.name}: {fault}" for fault in unknown_names(document, helps)]
+        faults += [f"{document.name}: {fault}" for fault in [*unknown_names(document, helps), *wrong_files(document)]]
         faults += [f"{document.name}: {figure} isn't in MEASURED.md" for figure in unmeasured(document)]
     for fault in faults:
         print(f"FAILED {fault}")

@@ -64,7 +64,7 @@ pub fn planned_send_whole()
     ttx_plan::whole_blocks::planned_blocks_are_whole();
 }
 
-/// So the subpages of a cycle planned with `--late` are seen in turn.
+/// So the subpages of a cycle planned with `--late` are seen in turn, if it is accepted.
 pub fn planned_are_seen()
     ensures { PlannedAreSeen }
 {
