@@ -81,6 +81,8 @@ def named_files(document):
             yield name, TOP / "crates" / f"{name.removesuffix('.antt')}.antt"
         elif re.match(r"ttx_[a-z_]+/src/", name):
             yield name, TOP / "crates" / name
+        elif re.match(r"(must-fail|specs|src|proofs)/.*\.\w+$", name):
+            yield name, next((TOP / "crates").glob(f"*/{name}"), TOP / name)
 
 
 @functools.cache
