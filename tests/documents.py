@@ -17,6 +17,8 @@ import tempfile
 from pathlib import Path
 
 TOP = Path(__file__).resolve().parent.parent
+sys.path.insert(0, str(TOP / "tools"))
+from reached import reached  # noqa: E402
 
 # what `make demo` does to its files, as far as the examples need it
 BEFORE = """
@@ -244,13 +246,12 @@ def wrong_crates():
     yield from (f"README.md does not say that {name} is trusted" for name in sorted(outside - listed("README.md", "**Trusted**")))
 
 
-def wrong_files(document):
-    """The definitions named in lists such as "- ttx_page: `Pages`, `Views`; ttx_code: `Words`" that are not in these crates."""
-    for line in re.findall(r"^- (ttx_.*)", document.read_text(), re.M):
-        for crate, names in re.findall(r"(ttx_\w+): ((?:`[\w/]+`(?:, )?)+)", line):
-            for name in re.findall(r"`([\w/]+)`", names):
-                if not (TOP / f"crates/{crate}/specs/{name}.antt").exists():
-                    yield f"no definitions {name} in {crate}"
+def wrong_reach():
+    """Whether docs/HEADLINE.md says how many files of definitions `certify` reaches."""
+    files = {file for file, _ in reached("ttx_certify", "certify")}
+    said = re.search(r"`python3 tools/reached.py ttx_certify certify` .* in (\d+) files", (TOP / "docs/HEADLINE.md").read_text())
+    if not said or int(said.group(1)) != len(files) or not any(file.name == "Seen.antt" for file in files):
+        yield f"HEADLINE.md: certify reaches {len(files)} files"
 
 
 def waits_when_spread(count, often, folder, words):
@@ -320,10 +321,10 @@ def main():
     documents = [TOP / "README.md", *sorted((TOP / "docs").glob("*.md")), TOP / "tests/README.md"]
     count, faults = failed_examples(documents, program) if program else (0, [])
     helps = help_texts(program) if program else {}
-    faults += [*(f"CONTRACTS.md: {fault}" for fault in index_faults()), *wrong_crates()]
+    faults += [*(f"CONTRACTS.md: {fault}" for fault in index_faults()), *wrong_crates(), *wrong_reach()]
     for document in documents:
         faults += [f"{document.name}: no file {link}" for link in dead_links(document)]
-        faults += [f"{document.name}: {fault}" for fault in [*unknown_names(document, helps), *wrong_files(document)]]
+        faults += [f"{document.name}: {fault}" for fault in unknown_names(document, helps)]
         faults += [f"{document.name}: {figure} isn't in MEASURED.md" for figure in unmeasured(document)]
     for fault in faults:
         print(f"FAILED {fault}")
