@@ -254,21 +254,22 @@ def wrong_reach():
         yield f"HEADLINE.md: certify reaches {len(files)} files"
 
 
-def waits_when_spread(count, often, folder, words):
-    """The seconds that viewers of the first of so many full pages wait in a spread plan, and viewers of the others."""
-    numbers = [f"{100 + at}" for at in range(count)]
-    pages = "".join(f'[[page]]\nnumber = "{number}"\noften = {often if number == "100" else 1}\n' for number in numbers)
+def waits_of_full_pages(count, often, option, folder, words):
+    """The seconds that viewers of the first of so many full pages wait, sent more often than the others, and those of all pages."""
+    pages = "".join(f'[[page]]\nnumber = "{100 + at}"\noften = {1 if at else often}\n' for at in range(count))
     (folder / "full.toml").write_text(f"lines = 12\nserial = true\n{pages}")
-    done = run("ttx plan full.toml full.t42 --spread && ttx wait full.t42 full.toml", folder, words)
-    return re.findall(r"^(?:100/0000|all) \d+ fields ([\d.]+) s", done.stdout, re.M)
+    done = run(f"ttx plan full.toml full.t42 {option} && ttx wait full.t42 full.toml", folder, words)
+    found = re.findall(r"^(?:100/0000|all) \d+ fields ([\d.]+) s", done.stdout, re.M)
+    return found if len(found) == 2 else [done.stderr, done.stderr]
 
 
 def wrong_waits(folder, words):
-    """The rows of the table of docs/SERVICE.md with other waits than spread plans give."""
-    rows = re.findall(r"^\| (\d+) \| [\d.]+ \| ([\d.]+) \| ([\d.]+) \| ([\d.]+) \| ([\d.]+) \|$", (TOP / "docs/SERVICE.md").read_text(), re.M)
+    """The rows of the table of docs/SERVICE.md with other waits than plans give."""
+    rows = re.findall(r"^\| (\d+) " + r"\| ([\d.]+) " * 5 + r"\|$", (TOP / "docs/SERVICE.md").read_text(), re.M)
     for count, *said in rows:
-        waits = [waits_when_spread(int(count), often, folder, words) for often in (2, 4, 8)]
-        found = [wait for wait, *_ in waits] + waits[-1][1:]
+        unspread = waits_of_full_pages(int(count), 8, "", folder, words)
+        spread = [waits_of_full_pages(int(count), often, "--spread", folder, words) for often in (2, 4, 8)]
+        found = [unspread[0], *(first for first, _ in spread), spread[-1][1]]
         if found != said:
             yield f"SERVICE.md: {count} pages wait {found}, not {said}"
     if len(rows) < 3:
@@ -298,7 +299,8 @@ def failed_examples(documents, program):
                 done = run(command, folder, words)
                 printed = (done.stdout + done.stderr).splitlines()
                 # a no has status 1, and a mistake that check reports has status 2: both print a line
-                if printed != lines or done.returncode > 2 or (done.returncode and not lines) or (done.returncode == 2 and "check" not in command):
+                is_odd = done.returncode > 2 or (done.returncode and not lines) or (done.returncode == 2 and "check" not in command)
+                if printed != lines or is_odd:
                     faults.append(f"{command}: status {done.returncode}, it prints {printed[:3]}, and {document.name} has {lines[:3]}")
         faults += wrong_waits(folder, words)
     return count, faults
@@ -310,7 +312,8 @@ def index_faults():
     yield from unknown_in_index(text)
     if len([*index_rows(text)]) < 70:
         yield "an index of less than 70 rows"
-    changes = ("`certify`: `exact`", "`certify`: `exakt`"), ("`runs_are_seen`", "`runs_were_seen`"), ("`Verdicts`", "`Verdict`"), ("`Glyphs`", "`Lib`")
+    changes = ("`certify`: `exact`", "`certify`: `exakt`"), ("`runs_are_seen`", "`runs_were_seen`"), ("`Verdicts`", "`Verdict`"), \
+        ("`Glyphs`", "`Lib`")
     for right, wrong in changes:
         if right not in text or not [*unknown_in_index(text.replace(right, wrong, 1))]:
             yield f"{wrong} in the place of {right} is not noticed"
