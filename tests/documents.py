@@ -312,9 +312,9 @@ def index_faults():
     yield from unknown_in_index(text)
     if len([*index_rows(text)]) < 70:
         yield "an index of less than 70 rows"
-    changes = ("`certify`: `exact`", "`certify`: `exakt`"), ("`runs_are_seen`", "`runs_were_seen`"), ("`Verdicts`", "`Verdict`"), \
-        ("`Glyphs`", "`Lib`")
-    for right, wrong in changes:
+    clause, law = ("`certify`: `exact`", "`certify`: `exakt`"), ("`runs_are_seen`", "`runs_were_seen`")
+    file, other = ("`Verdicts`", "`Verdict`"), ("`Glyphs`", "`Lib`")
+    for right, wrong in (clause, law, file, other):
         if right not in text or not [*unknown_in_index(text.replace(right, wrong, 1))]:
             yield f"{wrong} in the place of {right} is not noticed"
 
