@@ -66,10 +66,19 @@ def run(command, folder, words):
     return subprocess.run(["sh", "-c", command], cwd=folder, env=words, capture_output=True, text=True, timeout=60)
 
 
+def anchors_of(document):
+    """The anchors of the headings of a document."""
+    headings = re.findall(r"^#+ (.*)$", document.read_text(), re.M)
+    return {re.sub(r"[^\w -]", "", heading).strip().lower().replace(" ", "-") for heading in headings}
+
+
 def dead_links(document):
-    """The links of a document to files that do not exist."""
-    links = re.findall(r"\]\(([^)#\s]+)[^)]*\)", document.read_text())
-    return [link for link in links if "://" not in link and not (document.parent / link).exists()]
+    """The links of a document to files, or headings of documents, that do not exist."""
+    for link in re.findall(r"\]\(([^)\s]+)[^)]*\)", document.read_text()):
+        name, _, anchor = link.partition("#")
+        file = document.parent / name if name else document
+        if "://" not in link and (not file.exists() or (anchor and anchor not in anchors_of(file))):
+            yield link
 
 
 def named_files(document):
