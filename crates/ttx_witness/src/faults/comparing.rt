@@ -3,7 +3,6 @@
 ghost use Rattle.std.specs.Prelude.{◌≡◌, ◌<◌, ◌/◌, ◌↔◌, ℕ, IsTrue, true, drop, map, slice_index};
 ghost use Rattle.ttx_code.specs.Words.{odd_byte};
 ghost use Rattle.ttx_links.specs.Sets.{is_exact};
-ghost use Rattle.ttx_packet.specs.Slots.{IsSlot};
 ghost use Rattle.ttx_page.specs.Packets.{packet_of};
 ghost use Rattle.ttx_page.specs.Steady.{erases_page, IsLikeHead, RowIsRight, LinksAreRight};
 ghost use Rattle.ttx_page.specs.Views.{page_of};
@@ -70,7 +69,6 @@ fn are_sent(bytes: &[u8], characters: &[u8]) -> bool
 
 // Whether the slot is a header with the erase bit (C4).
 fn erases(slot: &[u8; 42]) -> bool
-    requires { IsSlot slot.now }
     ensures { IsTrue result ↔ (erases_page (packet_of slot.now) ≡ true) }
 {
     match header_in(slot) {
@@ -88,7 +86,6 @@ fn same_bits(a: Control, b: Control) -> bool
 
 // Whether the slot is a header with the page's control bits, except C4, and its characters.
 fn is_like_head(page: &Page, slot: &[u8; 42]) -> bool
-    requires { IsSlot slot.now }
     ensures { IsTrue result ↔ IsLikeHead (page_of page.now) (packet_of slot.now) }
 {
     ttx_page::laws::pages_keep_their_rules();
@@ -166,7 +163,6 @@ fn are_links_right(page: &Page, slot: &[u8; 42]) -> bool
 
 /// Whether what the slot sends differs from the page.
 pub fn is_wrong(page: &Page, check: &Check, slot: &[u8; 42]) -> bool
-    requires { IsSlot slot.now }
     ensures { IsTrue result ↔ IsWrong (page_of page.now) check.now slot.now }
 {
     match check {

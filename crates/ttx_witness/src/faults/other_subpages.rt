@@ -2,7 +2,6 @@
 
 ghost use Rattle.std.specs.Prelude.{◌≡◌, ◌<◌, ◌≤◌, ℕ, IfOk, None, get_or, length, map, replicate};
 ghost use Rattle.ttx_cycle.specs.Cycles.{slots_of};
-ghost use Rattle.ttx_packet.specs.Slots.{IsSlot};
 ghost use Rattle.ttx_page.specs.Packets.{packet_of};
 ghost use Rattle.ttx_page.specs.Views.{page_of};
 ghost use Rattle.ttx_witness.specs.faults.OtherSubpages.{place, first_of, heads_other, AreOtherHeaders, AreOtherSubpages};
@@ -33,7 +32,6 @@ pub fn first_of(first: Option<u32>, is: bool, j: u32) -> Option<u32>
 
 /// Notes slot `j` if it is the first header with another subcode than the one that is listed for its number.
 pub fn note_slot(first: &mut Vec<Option<u32>>, subcodes: &[Subcodes], slot: &[u8; 42], j: u32)
-    requires slot { IsSlot slot.now }
     requires first { length first.old.items ≡ 2048 }
     requires subcodes { length subcodes.now ≡ 2048 }
     ensures size { length first.new.items ≡ 2048 }

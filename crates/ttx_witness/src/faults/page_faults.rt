@@ -7,7 +7,6 @@ ghost use Rattle.ttx_page.specs.Views.{page_of};
 ghost use Rattle.ttx_page.specs.Streams.{repeated};
 ghost use Rattle.ttx_page.specs.Steady.{HasHeader, OtherSubpageAt, RowDiffersAt};
 ghost use Rattle.ttx_witness.specs.sent.ItemTransmissions.{owner_scan, entry_owner};
-ghost use Rattle.ttx_packet.specs.Slots.{IsSlot};
 ghost use Rattle.ttx_page.specs.Packets.{packet_of};
 ghost use Rattle.ttx_witness.specs.faults.Comparing.{is_mine, compared_item, sends, IsWrong, OtherHeaderAt, WrongAt, RowWrongAt};
 ghost use Rattle.ttx_witness.specs.faults.Faults.{TellsFirst, AreFirst, IsPageFault};
@@ -74,7 +73,6 @@ fn is_mine_at_end(cycle: &Cycle, page: PageId) -> bool
 
 // Whether the slot is a transmission that differs from the page. `mine` says whether the magazine's latest header is one of the page.
 fn differs(page: &Page, check: &Check, slot: &[u8; 42], mine: bool) -> bool
-    requires { IsSlot slot.now }
     ensures { IsTrue result ↔ ((sends (page_of page.now).id (compared_item check.now) (packet_of slot.now) mine ≡ true)
         × IsWrong (page_of page.now) check.now slot.now) }
 {

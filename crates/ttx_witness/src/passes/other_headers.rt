@@ -1,7 +1,6 @@
 //! Headers of other subpages, noted slot by slot.
 
 ghost use Rattle.std.specs.Prelude.{◌≡◌, ◌≤◌, ◌<◌, ℕ, None, get_or, length};
-ghost use Rattle.ttx_packet.specs.Slots.{IsSlot};
 ghost use Rattle.ttx_page.specs.Packets.{packet_of};
 ghost use Rattle.ttx_witness.specs.faults.OtherSubpages.{place, first_of, heads_other};
 
@@ -19,7 +18,6 @@ pub struct OtherHeaders {
 
 /// Notes slot `j` if it is a header.
 pub fn note_other_header(others: &mut OtherHeaders, slot: &[u8; 42], j: u32)
-    requires slot { IsSlot slot.now }
     ensures subcodes { others.new.subcodes ≡ others.old.subcodes }
     ensures noted { (mag number : ℕ) → 1 ≤ mag → mag ≤ 8 → number < 256 →
         get_or others.new.first.items (place mag number) None

@@ -1,7 +1,6 @@
 //! Facts about single slots of a page, noted slot by slot.
 
 ghost use Rattle.std.specs.Prelude.{◌≡◌, ◌↔◌, ◌<◌, ℕ, IsTrue, length, map, slice_get, Some, ◌==◌, true};
-ghost use Rattle.ttx_packet.specs.Slots.{IsSlot};
 ghost use Rattle.ttx_page.specs.Pages as definitions;
 ghost use Rattle.ttx_page.specs.Views.{page_of};
 ghost use Rattle.ttx_witness.specs.sent.Collected.{item_number};
@@ -85,7 +84,6 @@ fn noted(
 
 // Whether the slot differs from the page in the row with this number, and a viewer sees the row.
 fn is_row_wrong(page: &Page, number: u8, slot: &[u8; 42]) -> bool
-    requires { IsSlot slot.now }
     ensures { IsTrue result ↔ RowWrong (page_of page.now) (λ item. item_number item == number) slot.now }
 {
     match RowNumber::new(number) {

@@ -3,14 +3,13 @@
 
 ghost use Rattle.std.specs.Prelude.{◌≡◌, ◌<◌, ◌+◌, ◌++◌, ◌∷◌, [], Option, List, ℕ, length};
 ghost use Rattle.ttx_header.specs.Ids.{Id};
-ghost use Rattle.ttx_packet.specs.Slots.{IsSlot};
 ghost use Rattle.ttx_witness.specs.passes.Passing.{AreReady, AreSeen, AreKept};
 ghost use Rattle.ttx_witness.specs.sent.ItemTransmissions.{PageOwner};
 
 use crate::faults::other_subpages::first_of;
 use crate::passes::earlier_owners::all_moved;
 use crate::passes::ending::EndedPass;
-use crate::passes::numbered_slot::{NumberedSlot, is_slot};
+use crate::passes::numbered_slot::NumberedSlot;
 use crate::passes::other_headers::{OtherHeaders, note_other_header};
 use crate::passes::page_facts::{Facts, note_sent};
 use crate::passes::returning_owners::are_steady;
@@ -57,7 +56,6 @@ pub struct SecondPass<'a> {
 
 // Takes one more slot: records what it sends, updates the facts, and then the owners.
 fn take_slot(pass: &mut Pass, slot: &[u8; 42])
-    requires slot { IsSlot slot.now }
     requires few { pass.old.count < 65536 }
     ensures taken { (entry : Id → Option PageOwner) (y : List (List ℕ)) → AreReady pass.old → pass.old.count ≡ length y →
         AreSeen pass.old entry y pass.old.owners → AreKept pass.old entry y →
@@ -98,7 +96,6 @@ impl<'a> Pass<'a> {
         if self.count >= 65536 {
             return Err(WalkFault::TooLong);
         }
-        is_slot(slot);
         note_owner(&mut self.owners, &self.index, slot, self.count as i32);
         self.count += 1;
         Ok(())
@@ -137,7 +134,7 @@ impl<'a> SecondPass<'a> {
             self.over = true;
             return;
         }
-        is_slot(slot);
+        ttx_cycle::arrays::is_slot(slot);
         self.bad = first_of(self.bad, !clean(slot), self.pass.count);
         take_slot(&mut self.pass, slot);
     }

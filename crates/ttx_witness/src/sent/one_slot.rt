@@ -3,7 +3,6 @@
 ghost use Rattle.std.specs.Prelude.{◌≡◌, ◌<◌, ℕ, List, IfSome, MatchOption, slice_get, Some, false, if◌then◌else◌, ◌==◌, ◌&&◌};
 ghost use Rattle.std.specs.Prelude.{◌∷◌, [], ◌+ℤ◌, pos, not, int_lt, true};
 ghost use Rattle.ttx_header.specs.Ids.{Id};
-ghost use Rattle.ttx_packet.specs.Slots.{IsSlot};
 ghost use Rattle.ttx_page.specs.Packets.{packet_of};
 ghost use Rattle.ttx_page.specs.declared.item.Item.{Item};
 ghost use Rattle.ttx_witness.specs.sent.ItemTransmissions.{sent_under, sent_at};
@@ -76,11 +75,11 @@ pub fn sent_in_slot(
     j: i32,
     lines: u8,
 ) -> Option<Sent>
-    requires { IsSlot slot.now }
     ensures number { IfSome result (λ s. s.number < 26) }
     ensures sent { (ids : List Id) → IsIndex ids index.now → AreApart ids owners.now → (i : ℕ) (id : Id) (item : Item) →
         slice_get ids i ≡ Some id → IsItem item → sent_of i item result ≡ sent_at id lines item j (packet_of slot.now) (owner_for owners.now i id) }
 {
+    ttx_cycle::arrays::is_slot(slot);
     ttx_packet::laws::rows_are_numbered();
     ttx_header::laws::headers_have_fields();
     ttx_header::laws::headers_are_headers();

@@ -2,7 +2,6 @@
 
 ghost use Rattle.std.specs.Prelude.{◌≡◌, ◌<◌, ℕ, List, slice_get, get_or, false, None, Some, if◌then◌else◌, ◌==◌};
 ghost use Rattle.ttx_header.specs.Ids.{Id, IsId};
-ghost use Rattle.ttx_packet.specs.Slots.{IsSlot};
 ghost use Rattle.ttx_page.specs.Packets.{packet_of};
 ghost use Rattle.ttx_cycle.specs.Cycles.{slots_of};
 ghost use Rattle.ttx_witness.specs.sent.ItemTransmissions.{owner_after};
@@ -64,11 +63,11 @@ pub fn note_header(owners: &mut [Option<Owner>; 8], mag: usize, header: Owner, e
 
 /// Notes slot `j` if it is a page header.
 pub fn note_owner(owners: &mut [Option<Owner>; 8], index: &PageIndex, slot: &[u8; 42], j: i32)
-    requires { IsSlot slot.now }
     ensures after { (ids : List Id) → IsIndex ids index.now → (i : ℕ) (id : Id) → slice_get ids i ≡ Some id → IsId id →
         owner_for owners.new i id ≡ owner_after id j (packet_of slot.now) (owner_for owners.old i id) }
     ensures apart { (ids : List Id) → IsIndex ids index.now → AreApart ids owners.old → AreApart ids owners.new }
 {
+    ttx_cycle::arrays::is_slot(slot);
     ttx_header::laws::headers_have_fields();
     ttx_header::laws::headers_are_headers();
     if let Some(header) = read_header(slot) {

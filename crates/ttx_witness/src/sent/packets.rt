@@ -1,7 +1,6 @@
 //! The packets in slots: headers, rows and links.
 
 ghost use Rattle.std.specs.Prelude.{◌≡◌, MatchOption};
-ghost use Rattle.ttx_packet.specs.Slots.{IsSlot};
 ghost use Rattle.ttx_page.specs.Packets.{packet_of};
 ghost use Rattle.ttx_page.specs.Streams.{heads_page, carries};
 ghost use Rattle.ttx_page.specs.declared.item.Item.TheVariants.{Row as TheRow, Links as TheLinks};
@@ -15,9 +14,9 @@ use ttx_page::{Item, RowNumber};
 
 /// The page header in a slot, if there is one.
 pub fn header_in(slot: &[u8; 42]) -> Option<Header>
-    requires { IsSlot slot.now }
     ensures { MatchOption result (HoldsNoHeader (packet_of slot.now)) (λ h. HoldsHeader h (packet_of slot.now)) }
 {
+    ttx_cycle::arrays::is_slot(slot);
     ttx_header::laws::headers_have_fields();
     ttx_header::laws::headers_are_headers();
     read_header(slot)
@@ -55,7 +54,6 @@ pub fn links_in(slot: &[u8; 42]) -> Option<Address>
 
 /// Whether the slot is a header of the page.
 pub fn heads_page(page: PageId, slot: &[u8; 42]) -> bool
-    requires { IsSlot slot.now }
     ensures { result ≡ heads_page page (packet_of slot.now) }
 {
     match header_in(slot) {
@@ -66,7 +64,6 @@ pub fn heads_page(page: PageId, slot: &[u8; 42]) -> bool
 
 /// Whether the slot is a header with the page's number and another subcode.
 pub fn heads_other_subpage(page: PageId, slot: &[u8; 42]) -> bool
-    requires { IsSlot slot.now }
     ensures { result ≡ heads_other_subpage page (packet_of slot.now) }
 {
     match header_in(slot) {
@@ -80,7 +77,6 @@ pub fn heads_other_subpage(page: PageId, slot: &[u8; 42]) -> bool
 
 /// Whether, after this slot, the latest header of the page's magazine is one of the page. `mine` says whether it was before.
 pub fn mine_after(page: PageId, slot: &[u8; 42], mine: bool) -> bool
-    requires { IsSlot slot.now }
     ensures { result ≡ mine_after page (packet_of slot.now) mine }
 {
     match header_in(slot) {
@@ -118,7 +114,6 @@ fn carries_links(mag: u8, slot: &[u8; 42]) -> bool
 /// Whether the slot is a transmission of the item. `mine` says whether the latest header of the page's magazine before the slot is
 /// one of the page.
 pub fn sends(page: PageId, item: Item, slot: &[u8; 42], mine: bool) -> bool
-    requires { IsSlot slot.now }
     ensures { result ≡ sends page item (packet_of slot.now) mine }
 {
     match item {

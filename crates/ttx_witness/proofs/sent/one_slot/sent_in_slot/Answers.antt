@@ -31,7 +31,7 @@ returns-in-Some-clause-sent c = λ ids index apart i id item at is.
     (c.place_of.ensures ids index) _ (to_z-of_z w32 c.args.j c.ranges.j) i id at item is
 
 pub returns-in-None-clause-sent : goal.returns-in-None-clause-sent
-returns-in-None-clause-sent c = absurd (c.in-None.ensures (c.headers_have_fields.ensures c.args.slot.now _ c.requires c.in-Header.ensures.0).header)
+returns-in-None-clause-sent c = absurd (c.in-None.ensures (c.headers_have_fields.ensures c.args.slot.now _ c.is_slot.ensures c.in-Header.ensures.0).header)
 
 pub returns-in_default : goal.returns-in_default
 returns-in_default c =

@@ -15,8 +15,8 @@ noted mag ends old new h g f e m lt = f m lt ∙ ap (λ x. if m == mag - 1 then 
 pub returns-in-Some-clause-after : goal.returns-in-Some-clause-after
 returns-in-Some-clause-after c = λ ids index.
     let h = c.in-Some.ensures in
-    let kind = c.headers_are_headers.ensures c.args.slot.now c.requires h.0 in
-    header_noted c.args.slot.now kind (c.headers_have_fields.ensures c.args.slot.now _ c.requires kind).id c.id-id.result
+    let kind = c.headers_are_headers.ensures c.args.slot.now c.is_slot.ensures h.0 in
+    header_noted c.args.slot.now kind (c.headers_have_fields.ensures c.args.slot.now _ c.is_slot.ensures kind).id c.id-id.result
     (c.id-id.ensures.value ∙ ap (λ x. x.id) h.1) c.from.result (c.from.ensures ∙ c.mag.ensures.value)
     c.is_serial.result (c.is_serial.ensures ∙ ap c11 (c.control.ensures ∙ ap (λ x. x.control) h.1)) c.args.j c.place_of-page.result
     c.args.owners.now c.note_header.new.owners
@@ -29,8 +29,8 @@ returns-in-Some-clause-after c = λ ids index.
 pub returns-in-Some-clause-apart : goal.returns-in-Some-clause-apart
 returns-in-Some-clause-apart c = λ ids index.
     let h = c.in-Some.ensures in
-    let kind = c.headers_are_headers.ensures c.args.slot.now c.requires h.0 in
-    header_apart c.args.slot.now kind (c.headers_have_fields.ensures c.args.slot.now _ c.requires kind).id c.id-id.result
+    let kind = c.headers_are_headers.ensures c.args.slot.now c.is_slot.ensures h.0 in
+    header_apart c.args.slot.now kind (c.headers_have_fields.ensures c.args.slot.now _ c.is_slot.ensures kind).id c.id-id.result
     (c.id-id.ensures.value ∙ ap (λ x. x.id) h.1) c.from.result (c.from.ensures ∙ c.mag.ensures.value)
     c.is_serial.result (c.is_serial.ensures ∙ ap c11 (c.control.ensures ∙ ap (λ x. x.control) h.1)) c.args.j c.place_of-page.result
     c.args.owners.now c.note_header.new.owners
@@ -43,4 +43,4 @@ returns-in-Some-clause-apart c = λ ids index.
 pub returns-in_default-clause-after : goal.returns-in_default-clause-after
 returns-in_default-clause-after c = λ ids index i id at is.
     owner_stays c.args.slot.now (kind_of c.args.slot.now) refl
-    (no_header c.args.slot.now (λ mag e. c.in_default.ensures (c.headers_have_fields.ensures c.args.slot.now mag c.requires e).header)) id c.args.j _
+    (no_header c.args.slot.now (λ mag e. c.in_default.ensures (c.headers_have_fields.ensures c.args.slot.now mag c.is_slot.ensures e).header)) id c.args.j _
