@@ -43,8 +43,12 @@ fn push_items(text: &mut String, page: PageId, items: &[ItemWait]) -> Result<(),
     Ok(())
 }
 
-// Appends the lines of the items of a page, if the page is sent unchanged.
-fn push_under(text: &mut String, told: PageWait, items: &[ItemWait]) -> Result<(), AllocError>
+/// Appends the lines of the items of a page, if the page is sent unchanged.
+pub fn push_item_lines(
+    text: &mut String,
+    told: PageWait,
+    items: &[ItemWait],
+) -> Result<(), AllocError>
     ensures { OnOk result (string_bytes text.new ≡ string_bytes text.old ++ lines_under told.wait told.page items.now) }
 {
     match told.wait {
@@ -54,8 +58,8 @@ fn push_under(text: &mut String, told: PageWait, items: &[ItemWait]) -> Result<(
     }
 }
 
-// The waits of the items of the page at `index`.
-fn items_of(all: &[Vec<ItemWait>], index: usize) -> &[ItemWait]
+/// The waits of the items of the page at `index`; none if there is no such page.
+pub fn items_of(all: &[Vec<ItemWait>], index: usize) -> &[ItemWait]
     ensures { result.now ≡ get_or (map (λ told. told.items) all.now) index [] }
 {
     match all.get(index) {
@@ -70,7 +74,7 @@ fn push_both(text: &mut String, told: &[PageWait], all: &[Vec<ItemWait>]) -> Res
 {
     for index in 0..told.len() {
         push_page(text, told[index])?;
-        push_under(text, told[index], items_of(all, index))?;
+        push_item_lines(text, told[index], items_of(all, index))?;
     }
     Ok(())
 }
