@@ -30,13 +30,19 @@ spread_carried places late class service (Ok cycle) spread carries long = record
 }
 spread_carried places late class service (Err fault) spread carries long = tt
 
+pub exactly_too_long : (places : List ℕ) (late : Bool) (class : Class) (service : ServiceFields) → IsService service →
+    IsSpread (placed places (blocks_of class service.pages)) → IsLong places late class service ↔ IsTooLongSpread late class service
+exactly_too_long places late class service is spread = (
+  λ long. record { places = places; spread = spread; long = long },
+  λ other. subst (λ blocks. 65536 < length_bound service.lines (sent_blocks late blocks))
+      (spread_once other.places places (blocks_of class service.pages)
+      (blocks_often class service.serial other.places service.pages is.pages) other.spread spread)
+      other.long,
+)
+
 pub spread_too_long : (places : List ℕ) (late : Bool) (class : Class) (service : ServiceFields) (answer : Answer) → IsService service →
     IsSpread (placed places (blocks_of class service.pages)) → (answer ≡ Err TooLong) ↔ IsLong places late class service →
     (answer ≡ Err TooLong) ↔ IsTooLongSpread late class service
-spread_too_long places late class service answer is spread long = (
-  λ e. record { places = places; spread = spread; long = long.0 e },
-  λ other. long.1 (subst (λ blocks. 65536 < length_bound service.lines (sent_blocks late blocks))
-      (spread_once other.places places (blocks_of class service.pages)
-      (blocks_often class service.serial other.places service.pages is.pages) other.spread spread)
-      other.long),
-)
+spread_too_long places late class service answer is spread long =
+    let exact = exactly_too_long places late class service is spread in
+    (λ e. exact.0 (long.0 e), λ other. long.1 (exact.1 other))

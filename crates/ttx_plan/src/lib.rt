@@ -24,5 +24,5 @@ pub mod whole_blocks;
 
 pub use asked::Receivers;
 pub use faults::PlanFault;
-pub use planning::{plan, plan_at, plan_for, plan_spread, plan_with};
+pub use planning::{is_too_long_spread, plan, plan_at, plan_for, plan_spread, plan_with};
 pub use spread::spread_places;

@@ -129,6 +129,15 @@ pub fn plan_spread(
     plan_at(alloc, service, receivers, &places)
 }
 
+/// Whether `plan_spread` answers `TooLong`. Allocates no memory.
+pub fn is_too_long_spread(service: &Service, receivers: Receivers) -> bool
+    ensures { (result ≡ true) ↔ IsTooLongSpread receivers.late receivers.class service.now }
+{
+    let _pages = service.pages();
+    let bound = length_bound(receivers, service, &spread_places(service, receivers.class));
+    bound > Cycle::MOST
+}
+
 // Place 0 is in range for each page.
 fn first_places(service: &Service)
     ensures { ArePlaces [] service.now.pages }
