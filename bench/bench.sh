@@ -57,6 +57,34 @@ for service in inhibited subpages; do
     printf '%-34s %10s %14s\n' "$pages pages, $count slots" "$(tenths "$plan")" "$(tenths "$hash")"
 done
 
+# the seconds that a viewer of a page waits at most
+seconds() { "$program" wait "$1" "$2" | sed -n "s/^$3 [0-9]* fields \([0-9.]*\) s.*/\1/p"; }
+
+echo
+printf '%-34s %10s %14s %10s\n' 'plan --spread' 'ms' 'unspread, ms' 'times'
+for service in inhibited subpages often-300 promised-serial promised-parallel; do
+    spread=$(least "$program" plan "$service.toml" "$service.spread" --spread)
+    plan=$(least "$program" plan "$service.toml" "$service.planned")
+    pages=$(grep -c 'number =' "$service.toml")
+    promises=$(grep -c 'within =' "$service.toml")
+    printf '%-34s %10s %14s %10s\n' "$pages pages, $promises promises" "$(tenths "$spread")" "$(tenths "$plan")" \
+        "$((spread * 10 / plan / 10)).$((spread * 10 / plan % 10))"
+done
+echo "plan --spread: goal at most 2 times without promises, at most 1000 ms with 300 promises"
+
+echo
+printf '%-34s %14s %14s %14s %14s\n' 'page 100 often 8: waits, s' 'page 100' 'unspread' 'all' 'unspread'
+for pages in 50 300 800; do
+    for way in "" --spread; do
+        # shellcheck disable=SC2086
+        "$program" plan "often-$pages.toml" "often-$pages$way.t42" $way > /dev/null
+    done
+    printf '%-34s %14s %14s %14s %14s\n' "$pages pages of 23 rows, 12 lines" \
+        "$(seconds "often-$pages--spread.t42" "often-$pages.toml" 100/0000)" "$(seconds "often-$pages.t42" "often-$pages.toml" 100/0000)" \
+        "$(seconds "often-$pages--spread.t42" "often-$pages.toml" all)" "$(seconds "often-$pages.t42" "often-$pages.toml" all)"
+done
+echo "300 pages: goal at most 3 s for page 100, at most 5 percent more for all"
+
 echo
 printf '%-34s %10s %12s %14s\n' 'find and certify, --repeat 8' 'find, ms' 'certify, ms' 'sha256sum, ms'
 for slots in 8192 65536; do

@@ -84,16 +84,26 @@ def cycle(slots, pages, lines, inhibit=False, text_of=body):
     return b"".join(out)
 
 
+def page_text(number, mag, page, sub, keys, rows):
+    """The table of a page, with further keys."""
+    out = ["[[page]]", f'number = "{mag}{page:02X}"', f'sub = "{sub:04X}"', f'head = "PAGE {number}"', *keys, "[page.rows]"]
+    return "\n".join([*out, *(f'{r} = "{text}"' for r, text in enumerate(rows, 1) if text), "", ""])
+
+
 def service(pages, lines, inhibit, text_of=body):
     """A service of pages with 23 rows. If their display is inhibited, no row is sent."""
-    out = [f"lines = {lines}", "serial = true", ""]
-    for number, (mag, page, sub) in enumerate(page_ids(pages)):
-        out += ["[[page]]", f'number = "{mag}{page:02X}"', f'sub = "{sub:04X}"', f'head = "PAGE {number}"']
-        out += ["inhibit = true"] if inhibit else []
-        out += ["[page.rows]"]
-        out += [f'{r} = "{text}"' for r, text in enumerate(text_of(number), 1) if text]
-        out.append("")
-    return "\n".join(out) + "\n"
+    keys = ["inhibit = true"] if inhibit else []
+    texts = [page_text(number, *name, keys, text_of(number)) for number, name in enumerate(page_ids(pages))]
+    return f"lines = {lines}\nserial = true\n\n" + "".join(texts)
+
+
+def numbered(pages, mags, serial, keys):
+    """A service of pages with 23 rows on 12 lines, in the order of their numbers, evenly spread over magazines."""
+    texts, each = [], -(-pages // mags)
+    for number in range(pages):
+        sub, page = divmod(number % each, 255)
+        texts.append(page_text(number, 1 + number // each, page, sub, keys(number), body(number)))
+    return f"lines = 12\nserial = {str(serial).lower()}\n\n" + "".join(texts)
 
 
 def main():
@@ -111,12 +121,23 @@ def main():
     # blank rows are sent, so nearly every item has its own start, and there is little text to read
     (folder / "blank-65536.t42").write_bytes(cycle(65536, 2000, 1, text_of=blank))
     (folder / "blank.toml").write_text(service(2000, 1, False, blank))
+    # page 100 is sent in each of the eight rounds
+    for pages in (50, 300, 800):
+        (folder / f"often-{pages}.toml").write_text(numbered(pages, 1, True, lambda number: [] if number else ["often = 8"]))
+    for serial in (True, False):
+        name = "promised-serial.toml" if serial else "promised-parallel.toml"
+        (folder / name).write_text(numbered(300, 8, serial, promise))
     # one page, whose header comes every 28 slots
     (folder / "one-page.t42").write_bytes(cycle(28, 1, 3))
     (folder / "one-page.toml").write_text(service(1, 1, False))
     (folder / "42-mb").write_bytes(bytes(42_000_000))
     subpages = "".join(f'[[page]]\nnumber = "100"\nsub = "{sub:04X}"\n' for sub in subcodes(1213))
     (folder / "subpages.toml").write_text("lines = 2\nserial = true\n" + subpages)
+
+
+def promise(number):
+    """The seconds within which a page is to be seen: so few for the first five that they have to be sent more often."""
+    return [f"within = {3 if number == 0 else 6 if number < 3 else 12 if number < 5 else 25}"]
 
 
 def subcodes(count):
