@@ -1,2 +1,5 @@
 mod LaterDeadlines
 mod JudgedInputs
+mod FoundLaws
+mod ShownInTime
+mod JudgedLate

@@ -4,8 +4,8 @@
 --   IsFoundWith             the certificate that is found, with the deadline that is asked for, and the verdict on it
 use Rattle.std.specs.Prelude.{◌≡◌, ◌↔◌, ℕ, List, Option}
 use Rattle.ttx_page.specs.Pages.{Page}
-use Rattle.ttx_certificate.specs.Entries.{CertificateFields, certificate_fields_at, certificate_at}
-use Rattle.ttx_certificate.specs.NamedStarts.{Certificate}
+use Rattle.ttx_certificate.specs.Entries.{CertificateFields, IsCertificateFields, certificate_fields_at, certificate_at}
+use Rattle.ttx_certificate.specs.NamedStarts.{Certificate, IsCertificate}
 use Rattle.ttx_witness.specs.finding.Finding.{IsEnough, IsFoundFor}
 use Rattle.ttx_certify.specs.Verdicts.{IsVerdict, Means}
 use Rattle.ttx_certify.specs.declared.verdict.Verdict.{Verdict}
@@ -23,6 +23,8 @@ pub record IsFoundWith (cycle : List (List ℕ)) (pages : List Page) (lines : �
   pub found : Certificate
   pub least : Option ℕ
   pub is : IsFoundFor cycle pages asked.repeat lines asked.class found least
+  pub fields : IsCertificateFields w
+  pub ranges : IsCertificate (certificate_at w)
   pub same : certificate_at w ≡ with_deadline found asked.deadline
   pub exact : (verdict ≡ Yes) ↔ IsEnough least asked.deadline
   pub certified : IsVerdict cycle pages (certificate_at w) verdict

@@ -2,3 +2,7 @@ pub mod Deadlines
 pub mod Requirements
 pub mod RequiredLines
 pub mod RequiredFiles
+pub mod LateRequirements
+pub mod LateRequiredLines
+pub mod LateRequiredFiles
+pub mod FoundLaws

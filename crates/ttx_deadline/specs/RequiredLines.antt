@@ -10,11 +10,12 @@ use Rattle.ttx_certify.specs.declared.verdict.Verdict.TheVariants as certifier
 use Rattle.ttx_deadline.specs.declared.requirements.RequiredVerdict.{RequiredVerdict}
 use Rattle.ttx_deadline.specs.declared.requirements.RequiredVerdict.TheVariants as required
 use Rattle.ttx_deadline.specs.declared.requirements.Unmet.{Unmet}
-use Rattle.ttx_deadline.specs.declared.requirements.Unmet.TheVariants.{Lines, Deadline}
+use Rattle.ttx_deadline.specs.declared.requirements.Unmet.TheVariants.{Lines, Deadline, LateDeadline}
 
 unfoldable pub unmet_text : Unmet → List ℕ
 unmet_text (Lines lines service) = codes "no lines " ++ decimal lines ++ codes " of " ++ decimal service
 unmet_text (Deadline deadline fields) = codes "no deadline " ++ decimal deadline ++ codes " of " ++ decimal fields
+unmet_text (LateDeadline deadline fields) = codes "no late-deadline " ++ decimal deadline ++ codes " of " ++ decimal fields
 
 abbrev pub unmet_line : Unmet → List ℕ
 unmet_line unmet = unmet_text unmet ++ 10 ∷ []

@@ -3,11 +3,18 @@
 
 mod copies;
 mod finding;
+mod late_required_files;
+mod late_required_lines;
+mod late_requirements;
+pub mod laws;
 mod required_files;
 mod required_lines;
 mod requirements;
 
 pub use finding::{Asked, FoundWith, find_with};
+pub use late_required_files::certify_files_late_required;
+pub use late_required_lines::late_required_line;
+pub use late_requirements::{LateRequiredVerdict, certify_late_required};
 pub use required_files::certify_files_required;
 pub use required_lines::required_line;
 pub use requirements::{RequiredVerdict, Unmet, certify_required, first_unmet};

@@ -23,11 +23,15 @@ fn push_unmet(text: &mut String, unmet: Unmet) -> Result<(), AllocError>
             certificate,
             required,
         } => write!(text, "no deadline {certificate} of {required}"),
+        Unmet::LateDeadline {
+            certificate,
+            required,
+        } => write!(text, "no late-deadline {certificate} of {required}"),
     }
 }
 
-// The line of what is unmet.
-fn unmet_line(alloc: Global, unmet: Unmet) -> Result<String, AllocError>
+/// The line of what is unmet.
+pub(crate) fn unmet_line(alloc: Global, unmet: Unmet) -> Result<String, AllocError>
     ensures { IfOk result (λ text. string_bytes text ≡ lines.unmet_line unmet) }
 {
     let mut text = String::new(alloc);

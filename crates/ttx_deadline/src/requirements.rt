@@ -19,6 +19,8 @@ pub enum Unmet {
     Lines { certificate: u8, service: u8 },
     /// Its deadline is later than the one that is required, both in fields.
     Deadline { certificate: u32, required: u32 },
+    /// Receivers that show pages late have each page later than is required, both in fields.
+    LateDeadline { certificate: u32, required: u32 },
 }
 
 /// The verdict on a certificate of which a deadline may be required.

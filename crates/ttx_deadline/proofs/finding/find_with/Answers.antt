@@ -11,10 +11,13 @@ returns c =
     let found = certificate_of c.in_ok-found.found.certificate in
     let same = ap certificate_at c.in_ok-certificate.ensures in
     let rules = c.certificates_keep_their_rules.ensures c.in_ok-found.found.certificate in
+    let other = c.certificates_keep_their_rules.ensures c.in_ok-certificate.certificate in
     record {
       found = found;
       least = c.in_ok-found.found.deadline;
       is = c.in_ok-found.ensures;
+      fields = other.0;
+      ranges = other.1;
       same = same;
       exact = exactly_enough (slots_of c.args.cycle.now) (pages_of c.args.service.now) found (certificate_of c.in_ok-certificate.certificate)
           c.in_ok-found.found.deadline c.args.asked.deadline c.in_ok-verdict.verdict rules.1 c.requires.some_fields c.requires.few_fields
