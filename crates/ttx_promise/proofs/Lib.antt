@@ -5,4 +5,3 @@ mod KeptPromises
 mod PlanAnswers
 mod Steps
 mod Improvements
-mod RestoredOftens

@@ -11,6 +11,7 @@ use Rattle.ttx_source.specs.Services.{Authored, ServiceFields, IsService}
 use Rattle.ttx_promise.specs.Lateness.{often_or, often_at, page_or_none, page_at, IsLatest}
 use Rattle.ttx_promise.specs.Promises.{MayRise, IsRaised, raised, room, TriesToRaise, RaisesLatest}
 use Rattle.ttx_promise.specs.Searching.{MayBeRaised, GoesOn}
+use Rattle.ttx_promise.specs.declared.planning.Viewers.{Viewers}
 use Rattle.ttx_promise.proofs.LatestPromise.{latest_weighs, is_free, is_rare}
 use Rattle.ttx_promise.proofs.PageOften.{IsSentSo, authored_there, at_least_once, room_less}
 use Rattle.ttx_promise.proofs.RaisedPages.{one_raised}
@@ -80,9 +81,10 @@ raises_latest late class deadlines promises old new number (Some cycle) is lates
     let so = raised_so deadlines promises old number is latest in
     (subst (IsRaised promises old) (sym t.0) so.0, subst (λ (s : ServiceFields). room s.pages < room old.pages) (sym t.0) so.1, t.1)
 
-pub goes_on : (deadlines : List ℕ) (promises : List PromiseFields) (old new : ServiceFields) (number : ℕ) (answer : Bool) → IsService old →
-    IsLatest old.pages deadlines promises number → MayBeRaised (page_at promises number) old new answer → GoesOn promises old new answer
-goes_on deadlines promises old new number false is latest m = m
-goes_on deadlines promises old new number true is latest m =
+pub goes_on : (v : Viewers) (deadlines : List ℕ) (promises : List PromiseFields) (old new : ServiceFields) (number : ℕ) (answer : Bool) →
+    IsService old → IsLatest old.pages deadlines promises number →
+    MayBeRaised v.receivers.late v.receivers.class (page_at promises number) old new answer → GoesOn v promises old new answer
+goes_on v deadlines promises old new number false is latest m = m
+goes_on v deadlines promises old new number true is latest m =
     let so = raised_so deadlines promises old number is latest in
-    (subst (IsRaised promises old) (sym m) so.0, subst (λ (s : ServiceFields). room s.pages < room old.pages) (sym m) so.1)
+    (subst (IsRaised promises old) (sym m.0) so.0, subst (λ (s : ServiceFields). room s.pages < room old.pages) (sym m.0) so.1, m.1)

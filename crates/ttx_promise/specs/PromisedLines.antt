@@ -4,12 +4,15 @@
 --   kept_text, broken_text  the end of the line of a page that comes in time, with the fields of its promise; or too late, with its seconds
 --   of_text, promised_text, either_text     so many fields of a promise; the wait for a page with a promise; with or without one
 --   promised_line, pages_text       the line of a page, and those of a list
---   all_lines               the lines of pages, of all of them, and of those on the air that aren't in the service
-use Rattle.std.specs.Prelude.{ℕ, ◌*◌, nat_lt, if◌then◌else◌, List, [], ◌∷◌, ◌++◌, codes, Option, Some, None}
+--   items_text              the line of each page with those of its items
+--   end_text                the line of all pages, and that of those on the air that aren't in the service
+--   all_lines, all_item_lines       the lines of pages, without and with those of their items, and the end
+use Rattle.std.specs.Prelude.{ℕ, ◌*◌, nat_lt, if◌then◌else◌, List, [], ◌∷◌, ◌++◌, codes, drop, get_or, Option, Some, None}
 use Rattle.std.specs.Fmt.{decimal}
 use Rattle.ttx_header.specs.Ids.{Id}
 use Rattle.ttx_digits.specs.PageIds.{id_text}
-use Rattle.ttx_wait.specs.WaitLines.{seconds_text, fields_text, wait_text, all_text}
+use Rattle.ttx_wait.specs.WaitLines.{seconds_text, fields_text, wait_text, all_text, lines_under}
+use Rattle.ttx_witness.specs.declared.waiting.wait.ItemWait.{ItemWait}
 use Rattle.ttx_witness.specs.declared.waiting.wait.Wait.{Wait}
 use Rattle.ttx_witness.specs.declared.waiting.wait.Wait.TheVariants.{Fields, Faulty, Unsure}
 use Rattle.ttx_promise.specs.OtherPages.{others_text}
@@ -41,5 +44,15 @@ abbrev pub pages_text : List PromisedWait → List ℕ
 pages_text [] = []
 pages_text (one ∷ rest) = promised_line one ++ pages_text rest
 
+abbrev pub items_text : List PromisedWait → List (List ItemWait) → List ℕ
+items_text [] items = []
+items_text (one ∷ rest) items = promised_line one ++ lines_under one.told.wait one.told.page (get_or items 0 []) ++ items_text rest (drop 1 items)
+
+abbrev pub end_text : Option ℕ → Option ℕ → List Id → List ℕ
+end_text bad deadline others = codes "all" ++ all_text bad deadline ++ 10 ∷ others_text others
+
 abbrev pub all_lines : List PromisedWait → Option ℕ → Option ℕ → List Id → List ℕ
-all_lines all bad deadline others = pages_text all ++ codes "all" ++ all_text bad deadline ++ 10 ∷ others_text others
+all_lines all bad deadline others = pages_text all ++ end_text bad deadline others
+
+abbrev pub all_item_lines : List PromisedWait → List (List ItemWait) → Option ℕ → Option ℕ → List Id → List ℕ
+all_item_lines all items bad deadline others = items_text all items ++ end_text bad deadline others

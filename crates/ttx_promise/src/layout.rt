@@ -180,15 +180,3 @@ pub fn used(blocks: &[Block]) -> u32 {
     }
     count
 }
-
-/// The bound by which a cycle of these blocks is too long: `length_bound` of the planner.
-pub fn bound(blocks: &[Block], lines: u32) -> u32 {
-    let mut slots = used(blocks);
-    for block in blocks {
-        slots = slots
-            .wrapping_add(1 + u32::from(block.filler))
-            .wrapping_add(block.outline.rest)
-            .wrapping_add(lines);
-    }
-    slots.wrapping_add(lines).wrapping_mul(2)
-}

@@ -21,5 +21,8 @@ pub use absent_pages::other_pages;
 pub use faults::{LatePage, PromiseFault};
 pub use planning::{Viewers, plan_promises};
 pub use promise_lines::late_lines;
-pub use promised_reports::{PromisedReport, report_promises};
+pub use promised_reports::{
+    PromisedReport, Reported, report_promised_items, report_promises, report_promises_with,
+};
+pub use ttx_wait::Detail;
 pub use waits_and_promises::{PromisedWait, promised_waits, some_late};

@@ -2,6 +2,7 @@
 
 ghost use Rattle.std.specs.Prelude.{◌≡◌, ◌≢◌, ◌<◌, ◌≤◌, length, map, IfOk};
 ghost use Rattle.ttx_cycle.specs.Cycles.{slots_of};
+ghost use Rattle.ttx_plan.specs.Spread.{IsTooLongSpread};
 ghost use Rattle.ttx_promise.specs.Lateness.{often_at};
 ghost use Rattle.ttx_promise.specs.Promises.{Answers, Ends, IsSpreadFor, IsJudged, TriesToRaise, RaisesLatest, Improves};
 ghost use Rattle.ttx_promise.specs.Searching.{Begins};
@@ -11,10 +12,10 @@ ghost use Rattle.ttx_source.specs.Services.{pages_of};
 use crate::deadlines::deadlines;
 use crate::faults::{LatePage, PromiseFault};
 use crate::lateness::{late_pages, latest, page_at};
-use crate::searching::{oftens, search, set_oftens};
+use crate::searching::search;
 use std::alloc::Global;
 use ttx_cycle::Cycle;
-use ttx_plan::{PlanFault, Receivers, plan_spread};
+use ttx_plan::{PlanFault, Receivers, is_too_long_spread, plan_spread};
 use ttx_source::{Promise, Service};
 use ttx_witness::NoMemory;
 
@@ -162,49 +163,38 @@ fn improve_all(
     }
 }
 
-// The plan from which the improvement begins, with pages sent as often as the search found: the given one, and the service as it was, where
-// the cycle of the other might be too long after all.
+// The plan from which the improvement begins, with pages sent as often as the search found. It isn't too long.
 fn begin(
     alloc: Global,
     service: &mut Service,
     viewers: Viewers,
     promises: &[Promise],
-    first: Cycle,
 ) -> Result<Cycle, NoMemory>
-    requires plan { IsSpreadFor viewers.receivers.late viewers.receivers.class service.old (slots_of first) }
+    requires fits { IsTooLongSpread viewers.receivers.late viewers.receivers.class service.old → ⊥ }
     ensures { IfOk result (λ cycle. Begins viewers (map promise_view promises.now) service.old service.new (slots_of cycle)) }
 {
-    let _pages = service.pages();
-    let Ok(oftens) = oftens(alloc, service) else {
-        return Err(NoMemory);
-    };
     let Ok(()) = search(alloc, service, viewers, promises) else {
         return Err(NoMemory);
     };
     match plan_spread(alloc, service, viewers.receivers) {
         Ok(cycle) => Ok(cycle),
-        Err(PlanFault::NoMemory) => Err(NoMemory),
-        Err(_) => {
-            set_oftens(service, &oftens);
-            Ok(first)
-        }
+        Err(_) => Err(NoMemory),
     }
 }
 
-// The plan that keeps each promise, from the given one on.
+// The plan that keeps each promise, of a service that has a plan.
 fn keep_promises(
     alloc: Global,
     service: &mut Service,
     viewers: Viewers,
     promises: &[Promise],
-    first: Cycle,
 ) -> Result<Cycle, Missed>
-    requires plan { IsSpreadFor viewers.receivers.late viewers.receivers.class service.old (slots_of first) }
+    requires fits { IsTooLongSpread viewers.receivers.late viewers.receivers.class service.old → ⊥ }
     requires some_repeats { 1 ≤ viewers.repeat }
     requires few_repeats { viewers.repeat ≤ 8 }
     ensures { Ends viewers (map promise_view promises.now) service.old service.new result }
 {
-    match begin(alloc, service, viewers, promises, first) {
+    match begin(alloc, service, viewers, promises) {
         Ok(cycle) => improve_all(alloc, service, viewers, promises, cycle),
         Err(_) => Err(Missed::NoMemory),
     }
@@ -230,13 +220,13 @@ pub fn plan_promises(
     requires few_repeats { viewers.repeat ≤ 8 }
     ensures { Answers viewers (map promise_view promises.now) service.old service.new result }
 {
-    let first = match plan_spread(alloc, service, viewers.receivers) {
-        Ok(cycle) => cycle,
-        Err(PlanFault::NoPages) => return Err(PromiseFault::NoPages),
-        Err(PlanFault::TooLong) => return Err(PromiseFault::TooLong),
-        Err(PlanFault::NoMemory) => return Err(PromiseFault::NoMemory),
-    };
-    match keep_promises(alloc, service, viewers, promises, first) {
+    if service.pages().is_empty() {
+        return Err(PromiseFault::NoPages);
+    }
+    if is_too_long_spread(service, viewers.receivers) {
+        return Err(PromiseFault::TooLong);
+    }
+    match keep_promises(alloc, service, viewers, promises) {
         Ok(cycle) => Ok(cycle),
         Err(Missed::Late { pages }) => Err(PromiseFault::Late { pages }),
         Err(Missed::NoMemory) => Err(PromiseFault::NoMemory),

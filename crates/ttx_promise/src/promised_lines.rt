@@ -1,13 +1,13 @@
 //! The lines that say how long viewers wait, with the promises of pages.
 
-ghost use Rattle.std.specs.Prelude.{◌≡◌, ◌++◌, OnOk, string_bytes};
+ghost use Rattle.std.specs.Prelude.{◌≡◌, ◌++◌, OnOk, map, string_bytes};
 ghost use Rattle.ttx_promise.specs.PromisedLines as lines;
 
 use crate::waits_and_promises::PromisedWait;
 use std::alloc::AllocError;
 use ttx_digits::push_id;
-use ttx_wait::{push_fields, push_seconds, push_wait};
-use ttx_witness::{PageWait, Wait};
+use ttx_wait::{items_of, push_fields, push_item_lines, push_seconds, push_wait};
+use ttx_witness::{ItemWait, PageWait, Wait};
 
 // Appends that a page comes in time.
 #[tactic(auto, unfolding(crate::specs::PromisedLines::kept_text))]
@@ -82,6 +82,21 @@ pub fn push_lines(text: &mut String, all: &[PromisedWait]) -> Result<(), AllocEr
 {
     for one in all {
         push_line(text, *one)?;
+    }
+    Ok(())
+}
+
+/// Appends the line of each page with the lines of its items, if the page is sent unchanged.
+pub fn push_lines_of_items(
+    text: &mut String,
+    all: &[PromisedWait],
+    items: &[Vec<ItemWait>],
+) -> Result<(), AllocError>
+    ensures { OnOk result (string_bytes text.new ≡ string_bytes text.old ++ lines.items_text all.now (map (λ told. told.items) items.now)) }
+{
+    for index in 0..all.len() {
+        push_line(text, all[index])?;
+        push_item_lines(text, all[index].told, items_of(items, index))?;
     }
     Ok(())
 }
