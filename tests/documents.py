@@ -50,7 +50,7 @@ def examples(text):
 
 
 def made(folder, program):
-    """The files and programs that the examples name."""
+    """The files and programs that the examples name; news.toml is the first page of docs/SERVICE.md."""
     programs = folder / "bin"
     programs.mkdir()
     (programs / "ttx").symlink_to(program)
@@ -59,6 +59,8 @@ def made(folder, program):
     for file in (TOP / "tests/data").iterdir():
         shutil.copy(file, folder)
     shutil.copy(TOP / "examples/broadcast.toml", folder)
+    first = re.search(r"^```toml\n(.*?)^```$", (TOP / "docs/SERVICE.md").read_text(), re.M | re.S)
+    (folder / "news.toml").write_text(first.group(1))
     return {**os.environ, "PATH": f"{programs}:{os.environ['PATH']}"}
 
 
