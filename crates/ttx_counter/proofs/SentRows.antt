@@ -1,6 +1,6 @@
 -- The rows of a page that the slots of a stream send.
 use Rattle.std.proofs.Common.{◌≡◌, ◌⊎◌, ◌↔◌, ℕ, zero, suc, ◌+◌, ◌<◌, ◌≤◌, ℤ, pos, ◌+ℤ◌, ◌-ℤ◌, ◌<ℤ◌, ◌≤ℤ◌, Bool, true, false, ◌&&◌, if◌then◌else◌}
-use Rattle.std.proofs.Common.{◌==◌, ◌%◌, List, [], length, get_or, None, refl, sym, ap, ◌∙◌, subst, inl, inr, arith, eqb-true, eq-eqb}
+use Rattle.std.proofs.Common.{◌==◌, ◌%◌, List, [], length, get_or, None, refl, sym, ap, ◌∙◌, subst, inl, inr, arith, eqb-true}
 use Rattle.std.proofs.lemmas.Int.{ints, by_lt_z}
 use Rattle.std.proofs.lemmas.Bool.{and_parts, cond_both, both_ways, and_from}
 use Rattle.ttx_packet.specs.Slots.{Kind, IsEmpty, IsUnreadable, IsHeader, IsRow, IsLinks, IsInfo, IsOther, kind_of}
@@ -10,6 +10,7 @@ use Rattle.ttx_page.specs.Packets.{Packet, Empty, Unreadable, Header, Row, Links
 use Rattle.ttx_page.specs.declared.item.Item.TheVariants.{Row as TheRow}
 use Rattle.ttx_page.specs.Laws.{CyclesRepeat}
 use Rattle.ttx_page.specs.Streams.{Stream, repeated, heads, heads_page, carries, IsTransmission}
+use Rattle.ttx_page.proofs.Owners.{page_heads}
 use Rattle.ttx_witness.specs.faults.Comparing.{mine_after}
 use Rattle.ttx_counter.specs.Listening.{HasOwner, row_sent, mine_from, item_of}
 use Rattle.ttx_counter.specs.Cells.{is_row}
@@ -34,18 +35,6 @@ numbered law slot = go (kind_of slot) refl
 
 pub row_number : RowsAreNumbered → (slot : List ℕ) (mag number : ℕ) (text : List ℕ) → packet_of slot ≡ Row mag number text → number < 25
 row_number law slot mag number text e = let h = subst IsNumbered e (numbered law slot) in let b = h.1 in omega arith
-
-same_id_is : (a b : Id) → same_id a b ≡ true → b.mag ≡ a.mag
-same_id_is a b h = sym (eqb-true _ _ (and_parts _ _ (and_parts _ _ h).0).0)
-
-page_heads : (page : Id) (pk : Packet) → heads_page page pk ≡ true → heads page.mag pk ≡ true
-page_heads page (Header id control text) h = eq-eqb _ _ (same_id_is page id h)
-page_heads page Empty h = h
-page_heads page Unreadable h = h
-page_heads page (Row mag number text) h = h
-page_heads page (Links mag content) h = h
-page_heads page Info h = h
-page_heads page Other h = h
 
 module _ (s : Stream) (page : Id) where
   abbrev pk : ℤ → Packet

@@ -1,7 +1,6 @@
 //! The slots of a run: which slots of the cycle they are, and which rows of a page they send.
 
 ghost use Rattle.std.specs.Prelude.{◌≡◌, ◌+◌, ◌%◌, ◌<◌, pos, length, MatchOption, ⊤, IsTrue, ◌↔◌};
-ghost use Rattle.ttx_packet.specs.Slots.{IsSlot};
 ghost use Rattle.ttx_page.specs.Packets.{packet_of};
 ghost use Rattle.ttx_page.specs.Streams.{repeated};
 ghost use Rattle.ttx_cycle.specs.Cycles.{slots_of};
@@ -22,7 +21,6 @@ pub fn place(start: u32, i: u32, period: usize) -> usize
 
 /// The row of the page that a slot sends, 0 for a header. `mine` says whether the latest header of the magazine is one of the page.
 pub fn row_sent(page: PageId, slot: &[u8; 42], mine: bool) -> Option<u8>
-    requires { IsSlot slot.now }
     ensures row { result ≡ row_sent page (packet_of slot.now) mine }
     ensures few { MatchOption result ⊤ (λ r. r < 25) }
 {
