@@ -12,4 +12,7 @@ mod ComingItems
 mod HeadersOfNumbers
 mod ShownStays
 mod NextHeaders
+mod LongestIntervals
+mod NumbersVerdicts
+mod JudgedNumbers
 mod FirstPages

@@ -1,9 +1,10 @@
 -- The next header after a slot, read round the cycle.
-use Rattle.std.proofs.Common.{◌≡◌, ℕ, ◌+◌, ◌-◌, ◌%◌, ◌<◌, ◌≤◌, ℤ, pos, ◌+ℤ◌, ◌-ℤ◌, ◌<ℤ◌, ◌≤ℤ◌, nat_abs, true, false, ◌==◌, List, [], length, get_or}
+use Rattle.std.proofs.Common.{◌≡◌, ℕ, ◌+◌, ◌-◌, ◌%◌, ◌<◌, ◌≤◌, ℤ, pos, ◌+ℤ◌, ◌-ℤ◌, ◌<ℤ◌, ◌≤ℤ◌, nat_abs, true, false, not, ◌&&◌, ◌||◌, ◌==◌, List, [], length, get_or}
 use Rattle.std.proofs.Common.{nat_lt, Option, Some, None, MatchOption, refl, sym, ap, ◌∙◌, subst, inl, inr, arith, mod-eq_of_lt}
 use Rattle.std.proofs.lemmas.Int.{ints}
-use Rattle.std.proofs.lemmas.Bool.{and_from, and_parts, both_ways, cases_lt, cases_Bool, ltb-true, lt-ltb}
+use Rattle.std.proofs.lemmas.Bool.{and_from, and_parts, or_left, or_right, both_ways, cases_lt, cases_Bool, ltb-true, lt-ltb}
 use Rattle.std.proofs.Math.Nat.{add-mod_right}
+use Rattle.ttx_header.specs.Control.{c11}
 use Rattle.ttx_page.proofs.Decisions.{eq_sym}
 use Rattle.ttx_page.proofs.SlotDistances.{cases_ltz}
 use Rattle.ttx_page.specs.Laws.{EachSlotTurns, IsSameOn, StreamsMove}
@@ -15,9 +16,10 @@ use Rattle.ttx_page.specs.Streams.{Stream, repeated, turned, heads, heads_matche
 use Rattle.ttx_late.specs.LateReceivers.{selected_number, heads_number}
 use Rattle.ttx_late.proofs.GatheredMemories.{number_heads, matched_number}
 use Rattle.ttx_subpages.specs.declared.sought.Sought.{Sought}
-use Rattle.ttx_subpages.specs.declared.sought.Sought.TheVariants.{Magazine, Matched}
-use Rattle.ttx_subpages.specs.Distances.{seeks, IsDistance}
-use Rattle.ttx_subpages.specs.Stays.{HeadsAt, HasNone, IsNextInMagazine, IsStayAfter, StayBelow, lesser_of, StaysAfter, IsLeastStay}
+use Rattle.ttx_subpages.specs.declared.sought.Sought.TheVariants.{Magazine, Ending, Matched}
+use Rattle.ttx_subpages.specs.Distances.{may_end, seeks, IsDistance}
+use Rattle.ttx_subpages.specs.SeenInTurn.{MayEnd}
+use Rattle.ttx_subpages.specs.Stays.{HeadsAt, HasNone, IsNextInMagazine, MayEndNext, IsStayAfter, StayBelow, lesser_of, StaysAfter, IsLeastStay}
 use Rattle.ttx_subpages.specs.Stays.{IntervalBelow, IsGreatestInterval}
 
 module _ (cycle : List (List ℕ)) (sought : Sought) (at : ℕ) where
@@ -45,15 +47,15 @@ module _ (cycle : List (List ℕ)) (sought : Sought) (at : ℕ) where
       }
 
   -- the header itself comes again
-  pub never : at < length cycle → seeks sought (packet_of (get_or cycle at [])) ≡ true → NoneTo (length cycle) → ⊥
-  never inside mine none =
+  pub never : 0 < length cycle → seeks sought (packet_of (repeated cycle (pos at))) ≡ true → NoneTo (length cycle) → ⊥
+  never some mine none =
       let last = length cycle - 1 in
       let e : at + 1 + last ≡ at + length cycle = omega arith in
-      let back : (at + 1 + last) % length cycle ≡ at = ap (λ x. x % length cycle) e ∙ add-mod_right at (length cycle) ∙ mod-eq_of_lt inside in
+      let back : (at + 1 + last) % length cycle ≡ at % length cycle = ap (λ x. x % length cycle) e ∙ add-mod_right at (length cycle) in
       both_ways _ (subst (λ x. seeks sought (packet_of (get_or cycle x [])) ≡ false) back (none last (omega arith))) mine
 
 -- headers of the number that a selection listens to
-matched_of_number : (sel : Selection) (pkt : Packet) → heads_number sel pkt ≡ true → heads_matched (AnySub (selected_mag sel) (selected_number sel)) pkt ≡ true
+pub matched_of_number : (sel : Selection) (pkt : Packet) → heads_number sel pkt ≡ true → heads_matched (AnySub (selected_mag sel) (selected_number sel)) pkt ≡ true
 matched_of_number sel (Header id control text) h =
     and_from _ _ (eq_sym id.mag (selected_mag sel) ((and_parts _ _ h).0))
     (eq_sym id.page (selected_number sel) ((and_parts (id.mag == selected_mag sel) _ h).1))
@@ -67,17 +69,45 @@ matched_of_number sel Other h = absurd (both_ways false refl h)
 number_of_matched : (sel : Selection) (pkt : Packet) → heads_matched (AnySub (selected_mag sel) (selected_number sel)) pkt ≡ true → heads_number sel pkt ≡ true
 number_of_matched sel pkt h = matched_number (AnySub (selected_mag sel) (selected_number sel)) pkt h
 
-module _ (s : Stream) (sel : Selection) (at : ℕ) where
-  between : (sought : Sought) (d : ℕ) → IsDistance s sought at d → (j : ℤ) → pos at <ℤ j → j <ℤ pos (at + d) → seeks sought (packet_of (s j)) ≡ false
-  between sought d is j low high =
-      let i = nat_abs j in
-      let e : pos i ≡ j = omega (arith, ints) in
-      subst (λ z. seeks sought (packet_of (s z)) ≡ false) e (is.none i (omega (arith, ints)) (omega (arith, ints)))
+-- headers that may end a page
+ends_sought : (mag : ℕ) (pkt : Packet) → MayEnd mag pkt → may_end mag pkt ≡ true
+ends_sought mag (Header id control text) e = elim e as (λ _. may_end mag (Header id control text) ≡ true) [
+  | inl own ↦ or_left (id.mag == mag) (c11 control) own
+  | inr other ↦ or_right (id.mag == mag) (c11 control) ((and_parts _ _ other).1)
+]
+ends_sought mag (Row m n text) e = elim e as (λ _. may_end mag (Row m n text) ≡ true) [ inl h ↦ h | inr h ↦ h ]
+ends_sought mag (Links m content) e = elim e as (λ _. may_end mag (Links m content) ≡ true) [ inl h ↦ h | inr h ↦ h ]
+ends_sought mag Empty e = elim e as (λ _. may_end mag Empty ≡ true) [ inl h ↦ h | inr h ↦ h ]
+ends_sought mag Unreadable e = elim e as (λ _. may_end mag Unreadable ≡ true) [ inl h ↦ h | inr h ↦ h ]
+ends_sought mag Info e = elim e as (λ _. may_end mag Info ≡ true) [ inl h ↦ h | inr h ↦ h ]
+ends_sought mag Other e = elim e as (λ _. may_end mag Other ≡ true) [ inl h ↦ h | inr h ↦ h ]
 
+sought_ends : (mag : ℕ) (pkt : Packet) → may_end mag pkt ≡ true → MayEnd mag pkt
+sought_ends mag (Header id control text) e = elim (cases_Bool (id.mag == mag)) as (λ _. MayEnd mag (Header id control text)) [
+  | inl own ↦ inl own
+  | inr other ↦ inr (and_from (not (id.mag == mag)) (c11 control) (ap not other) (subst (λ b. (b || c11 control) ≡ true) other e))
+]
+sought_ends mag (Row m n text) e = inl e
+sought_ends mag (Links m content) e = inl e
+sought_ends mag Empty e = inl e
+sought_ends mag Unreadable e = inl e
+sought_ends mag Info e = inl e
+sought_ends mag Other e = inl e
+
+-- between a slot and the next header that is looked for there is none
+between : (s : Stream) (sought : Sought) (at d : ℕ) → IsDistance s sought at d → (j : ℤ) → pos at <ℤ j → j <ℤ pos (at + d) →
+    seeks sought (packet_of (s j)) ≡ false
+between s sought at d is j low high =
+    let i = nat_abs j in
+    let e : pos i ≡ j = omega (arith, ints) in
+    subst (λ z. seeks sought (packet_of (s z)) ≡ false) e (is.none i (omega (arith, ints)) (omega (arith, ints)))
+
+module _ (s : Stream) (sel : Selection) (at : ℕ) where
   abbrev Number : Selection
   Number = AnySub (selected_mag sel) (selected_number sel)
 
-  module _ (header : HeadsAt s sel (pos at)) (e m : ℕ) (end : IsDistance s (Magazine (selected_mag sel)) at e) (next : IsDistance s (Matched Number) at m) where
+  module _ (header : HeadsAt s sel (pos at)) (e m z : ℕ) (end : IsDistance s (Magazine (selected_mag sel)) at e)
+      (next : IsDistance s (Matched Number) at m) (close : IsDistance s (Ending (selected_mag sel)) (at + m) z) where
     pub not_after : e ≤ m
     not_after = elim (cases_lt m e) as (λ _. e ≤ m) [
       | inr ge ↦ omega arith
@@ -92,37 +122,52 @@ module _ (s : Stream) (sel : Selection) (at : ℕ) where
         let after = n.0.earlier in
         let some = end.some in
         elim (cases_ltz k (pos (at + e))) as (λ _. k ≡ pos (at + e)) [
-          | inl lt ↦ absurd (both_ways _ (between (Magazine (selected_mag sel)) e end k after lt) n.1)
+          | inl lt ↦ absurd (both_ways _ (between s (Magazine (selected_mag sel)) at e end k after lt) n.1)
           | inr ge ↦ elim (cases_ltz (pos (at + e)) k) as (λ _. k ≡ pos (at + e)) [
             | inl lt ↦ let low : pos at <ℤ pos (at + e) = omega (arith, ints) in absurd (both_ways _ (n.0.none_between (pos (at + e)) low lt) end.here)
             | inr le ↦ omega (arith, ints)
           ]
         ]
 
-    pub stay_is : (n : ℕ) → n ≡ m - e → IsStayAfter s sel (pos at) n
+    -- no later block of the number ends before the next one may
+    not_sooner : (y : ℤ) → MayEndNext s sel (pos at) y → pos (at + m + z) ≤ℤ y
+    not_sooner y may =
+        let after = may.after in
+        elim (cases_ltz may.begin (pos (at + m))) as (λ _. pos (at + m + z) ≤ℤ y) [
+          | inl lt ↦ absurd (both_ways _ (between s (Matched Number) at m next may.begin may.later lt)
+              (matched_of_number sel (packet_of (s may.begin)) may.is_number))
+          | inr ge ↦ elim (cases_ltz y (pos (at + m + z))) as (λ _. pos (at + m + z) ≤ℤ y) [
+            | inl lt ↦ absurd (both_ways _ (between s (Ending (selected_mag sel)) (at + m) z close y (omega (arith, ints)) lt)
+                (ends_sought (selected_mag sel) (packet_of (s y)) may.ends))
+            | inr le ↦ omega (arith, ints)
+          ]
+        ]
+
+    pub stay_is : (n : ℕ) → n ≡ m + z - e → IsStayAfter s sel (pos at) n
     stay_is n is =
         let le = not_after in
         let first = end.some in
         let second = next.some in
+        let third = close.some in
         record {
-          each = λ k j ends later number.
-              let same = one_end k ends in
-              elim (cases_ltz j (pos (at + m))) as (λ _. (k +ℤ pos n) ≤ℤ j) [
-                | inl lt ↦ absurd (both_ways _ (between (Matched Number) m next j later lt) (matched_of_number sel (packet_of (s j)) number))
-                | inr ge ↦ omega (arith, ints)
-              ];
+          each = λ k y ends may. let same = one_end k ends in let far = not_sooner y may in omega (arith, ints);
           end = pos (at + e);
           ends = (
             record {
               earlier = omega (arith, ints);
               is_header = number_heads sel (packet_of (s (pos at))) (matched_number sel (packet_of (s (pos at))) header);
-              none_between = λ i low high. between (Magazine (selected_mag sel)) e end i low high;
+              none_between = λ i low high. between s (Magazine (selected_mag sel)) at e end i low high;
             },
             end.here,
           );
-          next = pos (at + m);
-          later = omega (arith, ints);
-          is_next = number_of_matched sel (packet_of (s (pos (at + m)))) next.here;
+          next = pos (at + m + z);
+          ends_next = record {
+            begin = pos (at + m);
+            later = omega (arith, ints);
+            is_number = number_of_matched sel (packet_of (s (pos (at + m)))) next.here;
+            after = omega (arith, ints);
+            ends = sought_ends (selected_mag sel) (packet_of (s (pos (at + m + z)))) close.here;
+          };
           apart = omega (arith, ints);
         }
 
@@ -146,7 +191,7 @@ module _ (s : Stream) (sel : Selection) (at : ℕ) where
   }
 
   shorter : (h : ℤ) (n m : ℕ) → m ≤ n → StaysAfter s sel h n → StaysAfter s sel h m
-  shorter h n m le stays end j ends later number = let a = stays end j ends later number in omega (arith, ints)
+  shorter h n m le stays end z ends may = let a = stays end z ends may in omega (arith, ints)
 
   not_less : (m n : ℕ) → nat_lt m n ≡ false → n ≤ m
   not_less m n e = elim (cases_lt m n) as (λ _. n ≤ m) [ inl lt ↦ absurd (both_ways _ e (lt-ltb m n lt)) | inr ge ↦ omega arith ]
@@ -229,7 +274,7 @@ module _ (s : Stream) (sel : Selection) (at : ℕ) where
           let e : at ≡ i = omega arith in
           subst (λ x. Again x d) e (pos (at + d), omega (arith, ints), omega (arith, ints), is.here)
     ];
-    needed = inr (at, header, λ j low high. between (Matched sel) d is j low (omega (arith, ints)));
+    needed = inr (at, header, λ j low high. between s (Matched sel) at d is j low (omega (arith, ints)));
   }
 
 -- the slots of one period decide
@@ -253,18 +298,30 @@ module _ (turn : EachSlotTurns) (cycle : List (List ℕ)) (some : 0 < length cyc
   slot_is : (h : ℤ) (p : Place h) → s h ≡ s (pos p.index)
   slot_is h p = ap s p.place ∙ p.same (pos p.index)
 
+  ends_back : (h by g : ℤ) → h ≡ g +ℤ by → IsSameOn s (pos 0 -ℤ by) → (z : ℤ) → MayEndNext s sel h z → MayEndNext s sel g (z +ℤ (pos 0 -ℤ by))
+  ends_back h by g place back z may =
+      let later = may.later in
+      let after = may.after in
+      record {
+        begin = may.begin +ℤ (pos 0 -ℤ by);
+        later = omega (arith, ints);
+        is_number = subst (λ x. heads_number sel (packet_of x) ≡ true) (sym (back may.begin)) may.is_number;
+        after = omega (arith, ints);
+        ends = subst (λ x. MayEnd (selected_mag sel) (packet_of x)) (sym (back z)) may.ends;
+      }
+
   stay_back : StreamsMove → (h : ℤ) (p : Place h) (n : ℕ) → StaysAfter s sel (pos p.index) n → StaysAfter s sel h n
-  stay_back move h p n stays end j ends later number =
+  stay_back move h p n stays end z ends may =
       let d = pos 0 -ℤ p.by in
       let back = (move s p.by p.same).back in
       let m = move s d back in
       let place = p.place in
       let e : h +ℤ d ≡ pos p.index = omega (arith, ints) in
-      let a = stays (end +ℤ d) (j +ℤ d) (
-        subst (λ z. IsLatestHeader s (selected_mag sel) z (end +ℤ d)) e (m.latest (selected_mag sel) h end ends.0),
+      let a = stays (end +ℤ d) (z +ℤ d) (
+        subst (λ i. IsLatestHeader s (selected_mag sel) i (end +ℤ d)) e (m.latest (selected_mag sel) h end ends.0),
         subst (λ x. heads (selected_mag sel) (packet_of x) ≡ true) (sym (back end)) ends.1,
       )
-      (omega (arith, ints)) (subst (λ x. heads_number sel (packet_of x) ≡ true) (sym (back j)) number) in
+      (ends_back h p.by (pos p.index) place back z may) in
       omega (arith, ints)
 
   pub stay_of_cycle : StreamsMove → (n : ℕ) → length cycle ≤ n → (least : Option ℕ) → StayBelow s sel n least →
@@ -281,7 +338,7 @@ module _ (turn : EachSlotTurns) (cycle : List (List ℕ)) (some : 0 < length cyc
     most = λ m stays.
         let a = below.stay in
         let apart = a.apart in
-        let b = stays (pos below.slot) below.header a.end a.next a.ends a.later a.is_next in
+        let b = stays (pos below.slot) below.header a.end a.next a.ends a.ends_next in
         omega (arith, ints);
   }
 

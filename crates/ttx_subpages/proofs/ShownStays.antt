@@ -1,4 +1,4 @@
--- A subpage is shown from the end of its block to the next header of the number.
+-- A subpage is shown from the end of its block to where the next block of the number may end.
 use Rattle.std.proofs.Common.{◌≡◌, ℕ, true, ◌==◌, List, sym, subst, arith, eq-eqb}
 use Rattle.std.proofs.lemmas.Int.{ints}
 use Rattle.std.proofs.lemmas.Bool.{and_from}
@@ -20,15 +20,22 @@ matched pages mag number p sub pkt head = page_matched (AnySub mag number) p.id
 
 pub stays_are_shown : StaysAreShown
 stays_are_shown s pages class lines most mag number p sub seen n stays tau former d received tunes h low head f ended near =
-    seen.stays tau former d received tunes h low (record {
+    seen.kept tau former d received tunes h low (record {
       header = head;
       followed = f;
       ended = ended;
-      none_later = λ q subq i later before headq whole.
-          let apart = stays h (matched pages mag number p sub (packet_of (s h)) head) f.slot i (
+      none_later = λ q subq i later before headq may.
+          let below = may.2 in
+          let apart = stays h (matched pages mag number p sub (packet_of (s h)) head) f.slot may.0 (
             subst (λ m. IsLatestHeader s m h f.slot) sub.mag_is f.next,
             subst (λ m. heads m (packet_of (s f.slot)) ≡ true) sub.mag_is (another_heads p.id (packet_of (s f.slot)) f.another),
           )
-          later (matched_number (AnySub mag number) (packet_of (s i)) (matched pages mag number q subq (packet_of (s i)) headq)) in
+          (record {
+            begin = i;
+            later = later;
+            is_number = matched_number (AnySub mag number) (packet_of (s i)) (matched pages mag number q subq (packet_of (s i)) headq);
+            after = may.1;
+            ends = may.3;
+          }) in
           omega (arith, ints);
     })

@@ -3,6 +3,7 @@ pub mod WholeBlocks
 pub mod SeenInTurn
 pub mod Distances
 pub mod Stays
+pub mod Intervals
 pub mod Laws
 pub mod PlannedSubpages
 pub mod RepeatTwo
@@ -10,3 +11,5 @@ pub mod Numbers
 pub mod Lacks
 pub mod NumbersVerdicts
 pub mod NumberReports
+pub mod NumberWaits
+pub mod CertifyingNumbers

@@ -1,6 +1,6 @@
 -- What is said of each number with several pages, and the lines of a verdict on them (profile).
 --
---   IsStayOrNone, IsReport    a number's pages and how long they stay
+--   IsStayOrNone, IsReport    a number's pages, how long they stay and how soon they come again
 --   AreReportsBelow, AreReports   so of the numbers with several pages, and no others
 --   number_text             a page number, as in `110`
 --   amounts_text, number_line, numbers_text     the line of a number, and of each
@@ -23,6 +23,7 @@ use Rattle.ttx_certificate.specs.NamedStarts.{limit}
 use Rattle.ttx_late.specs.LateVerdictLines.{late_text, late_verdict_line}
 use Rattle.ttx_subpages.specs.Numbers.{count_of, leads, firsts_of}
 use Rattle.ttx_subpages.specs.Stays.{HasNone, IsLeastStay}
+use Rattle.ttx_subpages.specs.Intervals.{IsIntervalOf}
 use Rattle.ttx_subpages.specs.declared.lack.Lack.{Lack}
 use Rattle.ttx_subpages.specs.declared.lack.Lack.TheVariants.{Unwhole, Unlisted}
 use Rattle.ttx_subpages.specs.declared.reports.NumberReport.{NumberReport}
@@ -33,10 +34,11 @@ use Rattle.ttx_subpages.specs.declared.verdict.NumbersVerdict.TheVariants.{Yes, 
 abbrev pub IsStayOrNone : Stream → Selection → ℕ → Type 0
 IsStayOrNone s sel n = (HasNone s sel × (n ≡ 0)) ⊎ IsLeastStay s sel n
 
--- how many pages have the number of the page with this id, and how long they stay at least
+-- how many pages have the number of the page with this id, how long each stays at least, and how soon each comes again
 pub record IsReport (s : Stream) (pages : List Page) (t : NumberReport) : Type 0 where
   pub count : t.pages ≡ count_of pages t.first.mag t.first.page
   pub stay : IsStayOrNone s (AnySub t.first.mag t.first.page) t.stay
+  pub interval : IsIntervalOf s pages t.first.mag t.first.page t.interval
 
 -- of each number whose first page is among the first n of the list
 pub record AreReportsBelow (s : Stream) (pages : List Page) (n : ℕ) (reports : List NumberReport) : Type 0 where

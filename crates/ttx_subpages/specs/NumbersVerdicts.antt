@@ -1,9 +1,10 @@
 -- What a verdict on all numbers with several pages says (profile).
 --
 --   IsYes                   a Yes of the certifier for receivers that show a page late
+--   verdict_with            the verdict where it is Yes, by the first lack
 --   IsNumbersVerdict        the verdict on a cycle, pages and a certificate
 --   MeansNumbers            if it is Yes, the subpages of each such number are seen in turn, and each stays
-use Rattle.std.specs.Prelude.{ℕ, ◌+◌, List}
+use Rattle.std.specs.Prelude.{ℕ, ◌+◌, List, Option, Some, None}
 use Rattle.ttx_page.specs.Pages.{Page}
 use Rattle.ttx_page.specs.declared.selection.Selection.TheVariants.{Exact, AnySub}
 use Rattle.ttx_page.specs.Streams.{repeated}
@@ -16,6 +17,7 @@ use Rattle.ttx_subpages.specs.SeenInTurn.{SeenInTurn}
 use Rattle.ttx_subpages.specs.Numbers.{HasSeveral, AllSendWhole}
 use Rattle.ttx_subpages.specs.Lacks.{IsFirstLack}
 use Rattle.ttx_subpages.specs.Stays.{StaysFor, ComesAgainWithin, ShowsFor}
+use Rattle.ttx_subpages.specs.declared.lack.Lack.{Lack}
 use Rattle.ttx_subpages.specs.declared.verdict.NumbersVerdict.{NumbersVerdict}
 use Rattle.ttx_subpages.specs.declared.verdict.NumbersVerdict.TheVariants.{Yes, No, Lacking}
 
@@ -23,6 +25,11 @@ abbrev pub IsYes : LateVerdict → Type 0
 IsYes (late.Yes gap) = Unit {0}
 IsYes (late.No reason) = ⊥
 IsYes (late.NeverShown page slot) = ⊥
+
+-- Yes if nothing lacks
+abbrev pub verdict_with : ℕ → Option Lack → NumbersVerdict
+verdict_with gap None = Yes gap
+verdict_with gap (Some lack) = Lacking lack
 
 abbrev pub IsNumbersVerdict : List (List ℕ) → List Page → Certificate → NumbersVerdict → Type 0
 IsNumbersVerdict cycle pages w (Yes gap) = IsLateVerdict cycle pages w (late.Yes gap) × AllSendWhole (repeated cycle) pages w.lines

@@ -1,7 +1,8 @@
 -- How long a subpage stays, for receivers that show a page where it ends, and how long a viewer waits for it (profile).
 --
 --   IsNextInMagazine        the next header of a magazine after a slot, at which the block ends
---   StaysFor, IsLeastStay        from the end of each such block to the next header of the number are so many slots; and no more
+--   MayEndNext, StaysAfter  a slot at which a later block of the number may end; from the end of a block there are so many slots to it
+--   StaysFor, IsLeastStay   so it is of each block that is looked at; and of no more slots
 --   IsStayAfter, IsStayOfOne, StayBelow, lesser_of  the same of one header, and of those in the first slots of a cycle
 --   ComesAgainWithin, IsGreatestInterval    after each such header another comes within so many slots; and in no fewer
 --   IntervalBelow           the same of the headers in the first slots of a cycle
@@ -15,7 +16,7 @@ use Rattle.ttx_page.specs.declared.selection.Selection.{Selection}
 use Rattle.ttx_page.specs.Streams.{Stream, heads, heads_page, heads_matched, IsLatestHeader}
 use Rattle.ttx_certify.specs.Seen.{HasView}
 use Rattle.ttx_late.specs.LateReceivers.{LateMemory, heads_number}
-use Rattle.ttx_subpages.specs.SeenInTurn.{Tunes}
+use Rattle.ttx_subpages.specs.SeenInTurn.{Tunes, MayEnd}
 
 abbrev pub HeadsAt : Stream → Selection → ℤ → Type 0
 HeadsAt s sel h = heads_matched sel (packet_of (s h)) ≡ true
@@ -26,22 +27,29 @@ HasNone s sel = (h : ℤ) → heads_matched sel (packet_of (s h)) ≡ false
 abbrev pub IsNextInMagazine : Stream → ℕ → ℤ → ℤ → Type 0
 IsNextInMagazine s mag h end = IsLatestHeader s mag h end × (heads mag (packet_of (s end)) ≡ true)
 
--- the block under the header in slot h ends n slots or more before each later header of the number
+-- a block of the number that begins after slot h may end at slot z
+pub record MayEndNext (s : Stream) (sel : Selection) (h z : ℤ) : Type 0 where
+  pub begin : ℤ
+  pub later : h <ℤ begin
+  pub is_number : heads_number sel (packet_of (s begin)) ≡ true
+  pub after : begin <ℤ z
+  pub ends : MayEnd (selected_mag sel) (packet_of (s z))
+
+-- the block under the header in slot h ends n slots or more before each later block of the number may end
 abbrev pub StaysAfter : Stream → Selection → ℤ → ℕ → Type 0
-StaysAfter s sel h n = (end j : ℤ) → IsNextInMagazine s (selected_mag sel) h end → h <ℤ j → heads_number sel (packet_of (s j)) ≡ true → (end +ℤ pos n) ≤ℤ j
+StaysAfter s sel h n = (end z : ℤ) → IsNextInMagazine s (selected_mag sel) h end → MayEndNext s sel h z → (end +ℤ pos n) ≤ℤ z
 
 -- so it is of each header that the selection matches
 abbrev pub StaysFor : Stream → Selection → ℕ → Type 0
 StaysFor s sel n = (h : ℤ) → HeadsAt s sel h → StaysAfter s sel h n
 
--- the header in slot h, and a header of the number that comes n slots after its block has ended
+-- and a later one may end just n slots after it has ended
 pub record IsStayAfter (s : Stream) (sel : Selection) (h : ℤ) (n : ℕ) : Type 0 where
   pub each : StaysAfter s sel h n
   pub end : ℤ
   pub ends : IsNextInMagazine s (selected_mag sel) h end
   pub next : ℤ
-  pub later : h <ℤ next
-  pub is_next : heads_number sel (packet_of (s next)) ≡ true
+  pub ends_next : MayEndNext s sel h next
   pub apart : next ≡ end +ℤ pos n
 
 pub record IsStayOfOne (s : Stream) (sel : Selection) (at n : ℕ) : Type 0 where

@@ -1,12 +1,13 @@
 //! Certifying for viewers who key page numbers alone.
 
-ghost use Rattle.std.specs.Prelude.{IfOk};
+ghost use Rattle.std.specs.Prelude.{◌≡◌, IfOk};
 ghost use Rattle.ttx_cycle.specs.Cycles.{slots_of};
 ghost use Rattle.ttx_source.specs.Services.{pages_of};
 ghost use Rattle.ttx_witness.specs.Certificates.{certificate_of};
-ghost use Rattle.ttx_subpages.specs.NumbersVerdicts.{IsNumbersVerdict, MeansNumbers};
+ghost use Rattle.ttx_subpages.specs.NumbersVerdicts.{verdict_with, IsNumbersVerdict, MeansNumbers};
 
-use crate::lacks::first_lack;
+use crate::lack::Lack;
+use crate::lacks::lack_in;
 use crate::verdict::NumbersVerdict;
 use std::alloc::Global;
 use ttx_cycle::Cycle;
@@ -14,12 +15,22 @@ use ttx_late::{LateVerdict, certify_late};
 use ttx_source::Service;
 use ttx_witness::{Certificate, NoMemory};
 
+// The verdict on a cycle that is accepted also for receivers that show a page late.
+fn verdict_with(gap: usize, lack: Option<Lack>) -> NumbersVerdict
+    ensures { result ≡ verdict_with gap lack }
+{
+    match lack {
+        Some(lack) => NumbersVerdict::Lacking(lack),
+        None => NumbersVerdict::Yes { gap },
+    }
+}
+
 /// The verdict of `certify_late`, and if that is Yes, whether the subpages of each number with several pages are sent whole.
 ///
 /// If this verdict is Yes, then for each such number each of its subpages is seen in turn, whole, by whoever keys the number alone, and
 /// nothing else is: on each receiver that shows a page only where it ends, from any tuning slot, with any former memory, under each
 /// reception in which the text of the subpages comes right once a sending, whatever the certificate's repeat count. Each comes again
-/// within `greatest_interval` and the gap, and stays as long as `least_stay` says.
+/// within `greatest_interval` and the gap, and is shown as long as `least_stay` says.
 pub fn certify_numbers(
     alloc: Global,
     cycle: &Cycle,
@@ -34,13 +45,10 @@ pub fn certify_numbers(
     crate::laws::stays_are_shown();
     ttx_page::laws::pages_keep_their_rules();
     ttx_witness::certificate_laws::certificates_keep_their_rules();
-    match certify_late(alloc, cycle, service, certificate)? {
-        LateVerdict::Yes { gap } => {
-            match first_lack(alloc, cycle, service.pages(), certificate.lines())? {
-                Some(lack) => Ok(NumbersVerdict::Lacking(lack)),
-                None => Ok(NumbersVerdict::Yes { gap }),
-            }
-        }
-        verdict => Ok(NumbersVerdict::No(verdict)),
-    }
+    let verdict = certify_late(alloc, cycle, service, certificate)?;
+    let LateVerdict::Yes { gap } = verdict else {
+        return Ok(NumbersVerdict::No(verdict));
+    };
+    let lack = lack_in(alloc, cycle, service.pages(), certificate.lines())?;
+    Ok(verdict_with(gap, lack))
 }

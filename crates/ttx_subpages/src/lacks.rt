@@ -7,6 +7,7 @@ ghost use Rattle.ttx_page.specs.Pages as definitions;
 ghost use Rattle.ttx_page.specs.Streams.{repeated, heads_page};
 ghost use Rattle.ttx_page.specs.Views.{page_of, ids_of};
 ghost use Rattle.ttx_cycle.specs.Cycles.{slots_of};
+ghost use Rattle.ttx_source.specs.Services.{pages_of};
 ghost use Rattle.ttx_witness.specs.sent.AllSent.{AreAllSent};
 ghost use Rattle.ttx_subpages.specs.WholeBlocks.{ComesUnder, IsWhole};
 ghost use Rattle.ttx_subpages.specs.Numbers.{AllSendWholeAt, AllSendWhole};
@@ -19,6 +20,7 @@ use ttx_cycle::Cycle;
 use ttx_header::PageId;
 use ttx_late::place_of;
 use ttx_page::{Item, Page, needed};
+use ttx_source::Service;
 use ttx_witness::{Collected, NoMemory, Transmission, collect, header_in, item_of};
 
 // Whether the transmission is a sure one under the header at the slot, in the same period or in the next one.
@@ -127,9 +129,8 @@ fn lack_among(sendings: &Sendings) -> Option<Lack>
     None
 }
 
-/// The first header of a number with several pages under which not all of its page comes, or which is of none of these pages; of its
-/// page the first such item. `None` if the subpages of each such number are sent whole. Ids of pages are distinct.
-pub fn first_lack(
+// What the first header of a number with several pages lacks that lacks anything, of pages with distinct ids.
+pub(crate) fn lack_in(
     alloc: Global,
     cycle: &Cycle,
     pages: &[Page],
@@ -147,4 +148,19 @@ pub fn first_lack(
         collected: &collected,
     };
     Ok(lack_among(&sendings))
+}
+
+/// The first header of a number with several pages under which not all of its page comes, or which is of none of these pages; of its
+/// page the first such item. `None` if the subpages of each such number are sent whole. `lines` is slots in a field, and `Err` says that
+/// memory runs out.
+pub fn first_lack(
+    alloc: Global,
+    cycle: &Cycle,
+    service: &Service,
+    lines: u8,
+) -> Result<Option<Lack>, NoMemory>
+    ensures { IfOk result (λ lack. MatchOption lack (AllSendWhole (repeated (slots_of cycle.now)) (pages_of service.now) lines)
+        (IsFirstLack (slots_of cycle.now) (pages_of service.now) lines)) }
+{
+    lack_in(alloc, cycle, service.pages(), lines)
 }

@@ -3,6 +3,8 @@
 #![tactic(auto)]
 
 mod certifying;
+mod files;
+mod intervals;
 mod lack;
 mod lacks;
 pub mod laws;
@@ -12,8 +14,11 @@ mod reports;
 mod sought;
 mod stays;
 mod verdict;
+mod wait_lines;
 
 pub use certifying::certify_numbers;
+pub use files::certify_files_numbers;
+pub use intervals::longest_interval;
 pub use lack::Lack;
 pub use lacks::first_lack;
 pub use number_lines::numbers_verdict_text;
@@ -21,3 +26,4 @@ pub use numbers::count_of;
 pub use reports::{NumberReport, number_reports};
 pub use stays::{greatest_interval, least_stay};
 pub use verdict::NumbersVerdict;
+pub use wait_lines::number_waits;

@@ -9,7 +9,7 @@ use ttx_header::PageId;
 use ttx_page::Page;
 
 // Whether the page has this number.
-fn has_number(page: &Page, mag: u8, number: u8) -> bool
+pub(crate) fn has_number(page: &Page, mag: u8, number: u8) -> bool
     ensures { result ≡ has_number mag number (page_of page.now) }
 {
     let id = page.id();

@@ -5,8 +5,10 @@ ghost use Rattle.ttx_page.specs.Streams.{repeated};
 ghost use Rattle.ttx_page.specs.Views.{page_of};
 ghost use Rattle.ttx_page.specs.declared.selection.Selection.TheVariants.{AnySub};
 ghost use Rattle.ttx_cycle.specs.Cycles.{slots_of};
+ghost use Rattle.ttx_subpages.specs.Intervals.{IsIntervalOf};
 ghost use Rattle.ttx_subpages.specs.NumberReports.{IsStayOrNone, AreReportsBelow, AreReports};
 
+use crate::intervals::longest_interval;
 use crate::numbers::{count_of, is_first};
 use crate::stays::least_stay;
 use std::alloc::Global;
@@ -15,26 +17,34 @@ use ttx_header::PageId;
 use ttx_page::{Page, Selection};
 use ttx_witness::NoMemory;
 
-/// A number with several pages: the first of its pages in the list, how many there are, and for how many slots at least each is shown
-/// before the next header of the number.
+/// A number with several pages: the first of its pages in the list, how many there are, for how many slots at least a receiver that shows
+/// a page where it ends shows each of them, and after how many slots at most each comes again (`None` if one of them is not sent).
 #[derive(Clone, Copy)]
 pub struct NumberReport {
     pub first: PageId,
     pub pages: usize,
     pub stay: usize,
+    pub interval: Option<usize>,
 }
 
 // What is said of the number of the page with this id.
-fn report(cycle: &Cycle, first: PageId, pages: usize) -> NumberReport
+fn report(cycle: &Cycle, pages: &[Page], first: PageId, count: usize) -> NumberReport
     ensures id { result.first ≡ first }
-    ensures pages { result.pages ≡ pages }
+    ensures pages { result.pages ≡ count }
     ensures stay { IsStayOrNone (repeated (slots_of cycle.now)) (AnySub first.mag first.page) result.stay }
+    ensures interval { IsIntervalOf (repeated (slots_of cycle.now)) (map page_of pages.now) first.mag first.page result.interval }
 {
-    let stay = match least_stay(cycle, Selection::AnySub(first.mag(), first.page())) {
+    let (mag, number) = (first.mag(), first.page());
+    let stay = match least_stay(cycle, Selection::AnySub(mag, number)) {
         Some(stay) => stay,
         None => 0,
     };
-    NumberReport { first, pages, stay }
+    NumberReport {
+        first,
+        pages: count,
+        stay,
+        interval: longest_interval(cycle, pages, mag, number),
+    }
 }
 
 // Keeps what is said of a number.
@@ -66,7 +76,7 @@ fn note(
     if count < 2 {
         return Ok(());
     }
-    keep(reports, report(cycle, first, count))?;
+    keep(reports, report(cycle, pages, first, count))?;
     Ok(())
 }
 

@@ -33,16 +33,18 @@ fn number_of(selection: &Selection) -> Selection
     }
 }
 
-// From where the block under the header in slot `at` ends to the next header of the number, in slots.
+// From where the block under the header in slot `at` ends to where the next block of the number may end, in slots.
 fn stay_after(slots: &[[u8; 42]], at: usize, selection: &Selection) -> usize
     requires at { at < length slots.now }
     requires most { length slots.now ≤ 65536 }
     requires here { heads_matched selection.now (packet_of (slice_index_or slots.now at [])) ≡ true }
     ensures { IsStayAfter (repeated slots.now) selection.now (pos at) result }
 {
-    let end = distance(slots, at, &Sought::Magazine(magazine_of(selection)));
+    let mag = magazine_of(selection);
+    let end = distance(slots, at, &Sought::Magazine(mag));
     let next = distance(slots, at, &Sought::Matched(number_of(selection)));
-    next - end
+    let next_end = distance(slots, at + next, &Sought::Ending(mag));
+    next + next_end - end
 }
 
 // The lesser of two numbers, of which one may be missing.
@@ -73,8 +75,8 @@ fn shortened(
 }
 
 /// The least slots for which a receiver that shows a page where it ends, set to the number, shows a subpage that the selection matches:
-/// from the end of its block, at the next header of the magazine, to the next header of the number. `None` if the cycle has no header
-/// that the selection matches.
+/// from the end of its block, at the next header of the magazine, to where the next block of the number may end, at the next header of
+/// the magazine or, in serial transmission, of any. `None` if the cycle has no header that the selection matches.
 pub fn least_stay(cycle: &Cycle, selection: Selection) -> Option<usize>
     ensures { MatchOption result (HasNone (repeated (slots_of cycle.now)) selection) (IsLeastStay (repeated (slots_of cycle.now)) selection) }
 {

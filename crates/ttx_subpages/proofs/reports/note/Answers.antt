@@ -8,6 +8,7 @@ use Rattle.ttx_page.specs.Streams.{repeated}
 use Rattle.ttx_page.specs.Views.{page_of}
 use Rattle.ttx_page.specs.declared.selection.Selection.TheVariants.{AnySub}
 use Rattle.ttx_certify.proofs.PageByPage.{page_at}
+use Rattle.ttx_subpages.specs.Intervals.{IsIntervalOf}
 use Rattle.ttx_subpages.specs.NumberReports.{IsStayOrNone, AreReportsBelow}
 use Rattle.ttx_subpages.specs.Numbers.{has_number, is_id, is_first, count_of, leads}
 use Rattle.ttx_subpages.proofs.FirstPages.{page_skips, page_more}
@@ -64,5 +65,6 @@ returns c = λ below.
     (record {
       count = c.report.ensures.pages ∙ told ∙ ap (λ id. count_of pages id.mag id.page) (sym c.report.ensures.id);
       stay = subst (λ id. IsStayOrNone s (AnySub id.mag id.page) r.stay) (sym c.report.ensures.id) c.report.ensures.stay;
+      interval = subst (λ id. IsIntervalOf s pages id.mag id.page r.interval) (sym c.report.ensures.id) c.report.ensures.interval;
     })
     below)

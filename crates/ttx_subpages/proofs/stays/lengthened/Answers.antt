@@ -14,8 +14,13 @@ returns-then-not-heads_matched c =
 
 pub returns-then-interval-most : goal.returns-then-interval-most
 returns-then-interval-most c =
-    interval_kept (repeated c.args.slots.now) c.args.selection.now c.args.at c.args.most c.distance-interval.result c.distance-interval.ensures
+    interval_kept (repeated c.args.slots.now) c.args.selection.now c.args.at c.args.most c.distance-interval.result c.distance-interval.ensures.is
     c.if-interval-most.true
+
+pub distance-interval-requires-clause-here : goal.distance-interval-requires-clause-here
+distance-interval-requires-clause-here c =
+    ap (λ x. heads_matched c.args.selection.now (packet_of x)) (slot_here c.args.slots.now c.args.at c.requires.at) ∙ sym c.heads_matched.ensures
+    ∙ c.if-not-heads_matched.false
 
 pub returns : goal.returns
 returns c =
@@ -23,4 +28,4 @@ returns c =
     let sel = c.args.selection.now in
     interval_more (repeated slots) sel c.args.at c.args.most c.distance-interval.result
     (ap (λ x. heads_matched sel (packet_of x)) (slot_here slots c.args.at c.requires.at) ∙ sym c.heads_matched.ensures ∙ c.if-not-heads_matched.false)
-    c.distance-interval.ensures (let ge = c.if-interval-most.false in omega arith)
+    c.distance-interval.ensures.is (let ge = c.if-interval-most.false in omega arith)
