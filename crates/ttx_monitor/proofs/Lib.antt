@@ -5,4 +5,8 @@ mod SlotOwners
 mod HeardSlot
 mod FirstState
 mod CountedCells
+mod LongestStreaks
+mod WrongBytes
+mod HeardFeeds
+mod HeardMore
 mod MisfitCounts

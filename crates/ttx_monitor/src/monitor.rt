@@ -6,8 +6,8 @@ ghost use Rattle.ttx_cycle.specs.Cycles.{slots_of};
 ghost use Rattle.ttx_monitor.specs.Breaches.{first_told};
 
 use crate::breach::{Breach, TextByte};
-use crate::comparing::slot_breach;
-use crate::counting::{Pair, no_streaks, note};
+use crate::comparing::{slot_breach, wrong_bytes};
+use crate::counting::{Pair, longest_with, no_streaks, note};
 use crate::places::RowPlace;
 use crate::table::table_of;
 use std::alloc::Global;
@@ -26,6 +26,8 @@ pub struct Monitor<'a> {
     repeat: u8,
     at: usize,
     within: bool,
+    longest: u8,
+    wrong: u64,
     count: u64,
 }
 
@@ -67,6 +69,13 @@ fn one_more(count: u64) -> u64
     count.saturating_add(1)
 }
 
+// Adds a number, up to the largest number.
+fn added(count: u64, more: u8) -> u64
+    ensures { result ≡ min (count + more) (2 ^ 64 - 1) }
+{
+    count.saturating_add(u64::from(more))
+}
+
 // How a slot breaks the rule: by itself; otherwise by the byte that has now been wrong too often.
 fn first_told(alone: Option<Breach>, repeated: Option<TextByte>) -> Option<Breach>
     ensures { result ≡ first_told alone repeated }
@@ -94,6 +103,7 @@ impl<'a> Monitor<'a> {
     ghost use Rattle.ttx_monitor.specs.Laws.{IsSeenIn};
     ghost use Rattle.ttx_monitor.specs.Breaches.{IsHeard};
     ghost use Rattle.ttx_monitor.specs.Standing.{Stands};
+    ghost use Rattle.ttx_monitor.specs.Totals.{wrong_bytes, IsLongestStreak};
 
     /// A monitor for the pages of a service, with the certificate's repeat count. The feed begins with slot `start` of the cycle. Allocates all
     /// memory of the monitor. `Err` if memory runs out.
@@ -134,6 +144,8 @@ impl<'a> Monitor<'a> {
             repeat,
             at,
             within: true,
+            longest: 0,
+            wrong: 0,
             count: 0,
         })
     }
@@ -157,6 +169,8 @@ impl<'a> Monitor<'a> {
             received: slot,
         };
         let repeated = note(&mut self.cells, place, &pair, self.repeat);
+        self.longest = longest_with(self.longest, &self.cells, place, &pair);
+        self.wrong = added(self.wrong, wrong_bytes(sent, slot));
         self.at = next(self.at, self.cycle.slots().len());
         let breach = first_told(slot_breach(sent, slot), repeated);
         self.within = self.within && breach.is_none();
@@ -181,6 +195,25 @@ impl<'a> Monitor<'a> {
         ensures { (w : Watched) (feed : List (List ℕ)) → Stands self.now w feed → result ≡ min (length feed) (2 ^ 64 - 1) }
     {
         self.count
+    }
+
+    /// How many bytes were not received as they were sent, without the clocks of page headers and the bytes of packet 8/30 behind its
+    /// address. The count stops at 2^64 - 1. Allocates no memory.
+    pub fn wrong(&self) -> u64
+        ensures { (w : Watched) (feed : List (List ℕ)) → Stands self.now w feed → result ≡ min (wrong_bytes w feed (length feed)) (2 ^ 64 - 1) }
+    {
+        self.wrong
+    }
+
+    /// In how many successive transmissions a text byte was wrong at most, where the feed is within the error rule. Allocates no memory.
+    pub fn longest(&self) -> u8
+        ensures { (w : Watched) (feed : List (List ℕ)) → Stands self.now w feed → IsWithin w feed → IsLongestStreak w feed result }
+    {
+        ttx_packet::laws::rows_are_numbered();
+        ttx_page::laws::each_slot_turns();
+        ttx_page::laws::streams_move();
+        ttx_counter::laws::streaks_decide();
+        self.longest
     }
 
     /// Whether the feed is within the error rule and at least as long as the certificate's deadline. If so, and if the cycle is accepted with

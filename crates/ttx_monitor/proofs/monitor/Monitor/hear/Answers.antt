@@ -7,6 +7,8 @@ use Rattle.ttx_cycle.specs.Cycles.{slots_of-IsCycle}
 use Rattle.ttx_monitor.specs.Watching.{sent_at, IsWithin}
 use Rattle.ttx_monitor.specs.Streaks.{place_at}
 use Rattle.ttx_monitor.specs.Breaches.{IsSlotJudged, IsHeard}
+use Rattle.ttx_monitor.specs.Totals.{wrong_in, wrong_bytes}
+use Rattle.ttx_monitor.proofs.WrongBytes.{wrong_more}
 use Rattle.ttx_counter.proofs.SentRows.{slot_at}
 use Rattle.ttx_monitor.proofs.FeedStreaks.{turn_next}
 use Rattle.ttx_monitor.proofs.HeardSlot.{heard, fine_kept, kept_fine, kept_old, none_told, first_breach}
@@ -42,6 +44,14 @@ returns-clause-stands c = λ w feed st.
           ∙ ap (λ z. z % length w.cycle) grown;
       table = st.table;
       streaks = c.note-repeated.ensures.streaks w table feed (sym st.repeat) cyc st.table place sent st.streaks;
+      longest = c.longest_with-self.ensures w table feed cyc st.table place sent
+          (c.note-repeated.ensures.streaks w table feed (sym st.repeat) cyc st.table place sent st.streaks) st.longest;
+      wrong =
+          let e = c.added-self.ensures in
+          let k = st.wrong in
+          let more = c.wrong_bytes.ensures ∙ ap (λ s. wrong_in s slot) sent in
+          let all = wrong_more w feed slot in
+          let l = ap (wrong_bytes w (feed ++ slot ∷ [])) (length_push feed slot) in omega arith;
       count = let e = c.one_more-self.ensures in let k = st.count in let l = length_push feed slot in omega arith;
       within = elim c.if-self.branch [
         | then-self q ↦ (

@@ -1,0 +1,62 @@
+-- How many bytes are wrong, while a feed grows by one slot.
+use Rattle.std.proofs.Common.{◌≡◌, ℕ, zero, suc, ◌+◌, ◌≤◌, Bool, true, false, not, ◌==◌, List, [], ◌∷◌, ◌++◌, length, get_or}
+use Rattle.std.proofs.Common.{refl, ap, ◌∙◌, inl, inr, arith, eq-eqb, eqb-true}
+use Rattle.std.proofs.lemmas.Bool.{cases_Bool}
+use Rattle.std.proofs.lemmas.List.{get_or_append_left, get_or_push}
+use Rattle.ttx_packet.specs.Slots.{kind_of}
+use Rattle.ttx_monitor.specs.Watching.{Watched, sent_at}
+use Rattle.ttx_monitor.specs.Totals.{compared_bytes, count_to, is_wrong, wrong_in, wrong_bytes}
+
+pub none_counted : (test : ℕ → Bool) (n : ℕ) → ((x : ℕ) → test x ≡ false) → count_to test n ≡ 0
+unfolding count_to
+none_counted test zero f = refl
+none_counted test (suc n) f = rw (f n) (none_counted test n f)
+
+module _ (test : ℕ → Bool) (n : ℕ) where
+  pub passed : test n ≡ true → count_to test (n + 1) ≡ count_to test n + 1
+  unfolding count_to
+  passed h = let e : n + 1 ≡ suc n = omega arith in ap (count_to test) e ∙ rw h (let g : suc (count_to test n) ≡ count_to test n + 1 = omega arith in g)
+
+  pub failed : test n ≡ false → count_to test (n + 1) ≡ count_to test n
+  unfolding count_to
+  failed h = let e : n + 1 ≡ suc n = omega arith in ap (count_to test) e ∙ rw h refl
+
+pub none_before : (test : ℕ → Bool) → count_to test 0 ≡ 0
+unfolding count_to
+none_before test = refl
+
+-- a slot that is received as it was sent
+pub none_in : (sent received : List ℕ) → received ≡ sent → wrong_in sent received ≡ 0
+none_in sent received e = none_counted (is_wrong sent received) (compared_bytes (kind_of sent))
+    (λ x. ap not (eq-eqb _ _ (ap (λ s. get_or s x 0) e)))
+
+pub no_wrong : (w : Watched) → wrong_bytes w [] 0 ≡ 0
+unfolding wrong_bytes
+no_wrong w = refl
+
+module _ (w : Watched) (feed : List (List ℕ)) (slot : List ℕ) where
+  earlier : (m : ℕ) → m ≤ length feed → wrong_bytes w (feed ++ slot ∷ []) m ≡ wrong_bytes w feed m
+  unfolding wrong_bytes
+  earlier zero le = refl
+  earlier (suc m) le =
+      ap (λ k. k + wrong_in (sent_at w m) (get_or (feed ++ slot ∷ []) m [])) (earlier m (omega arith))
+      ∙ ap (λ s. wrong_bytes w feed m + wrong_in (sent_at w m) s) (get_or_append_left feed (slot ∷ []) [] m (omega arith))
+
+  pub wrong_more : wrong_bytes w (feed ++ slot ∷ []) (length feed + 1) ≡ wrong_bytes w feed (length feed) + wrong_in (sent_at w (length feed)) slot
+  unfolding wrong_bytes
+  wrong_more =
+      let e : length feed + 1 ≡ suc (length feed) = omega arith in
+      ap (wrong_bytes w (feed ++ slot ∷ [])) e
+      ∙ ap (λ k. k + wrong_in (sent_at w (length feed)) (get_or (feed ++ slot ∷ []) (length feed) [])) (earlier (length feed) (omega arith))
+      ∙ ap (λ s. wrong_bytes w feed (length feed) + wrong_in (sent_at w (length feed)) s) (get_or_push feed slot [] (length feed) refl)
+
+-- one byte
+module _ (sent received : List ℕ) (x : ℕ) where
+  pub differs_at : (get_or received x 0 ≡ get_or sent x 0 → ⊥) → is_wrong sent received x ≡ true
+  differs_at ne = elim (cases_Bool (get_or received x 0 == get_or sent x 0)) as (λ _. is_wrong sent received x ≡ true) [
+    | inl same ↦ absurd (ne (eqb-true (get_or received x 0) (get_or sent x 0) same))
+    | inr other ↦ ap not other
+  ]
+
+  pub same_at : get_or received x 0 ≡ get_or sent x 0 → is_wrong sent received x ≡ false
+  same_at e = ap not (eq-eqb (get_or received x 0) (get_or sent x 0) e)
