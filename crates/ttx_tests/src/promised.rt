@@ -4,8 +4,8 @@ use std::test::Fail;
 use ttx_page::Class;
 use ttx_plan::{Receivers, plan_spread};
 use ttx_promise::{
-    LatePage, PromiseFault, Viewers, late_lines, plan_promises, promised_waits, report_promises,
-    some_late,
+    Detail, LatePage, PromiseFault, Reported, Viewers, late_lines, plan_promises, promised_waits,
+    report_promises, report_promises_with, some_late,
 };
 use ttx_source::{read_promises, read_service};
 
@@ -119,5 +119,32 @@ fn pages_on_the_air_alone_are_named(rt: HostRuntime) -> Result<(), Fail> {
             == "100/0000 22 fields 0.44 s row 21\nall 22 fields 0.44 s\nnot in the service: 101/0000\n"
     );
     assert!(rt; !report.late);
+    Ok(())
+}
+
+// From a page header to the next one it is a period, to row 1 of the next block five slots more.
+#[test]
+fn items_stand_under_promised_pages(rt: HostRuntime) -> Result<(), Fail> {
+    let Ok(service) = read_service(rt.alloc(), TWO) else {
+        panic!(rt; "there is no service");
+    };
+    let Ok(promises) = read_promises(rt.alloc(), TWO) else {
+        panic!(rt; "there are no promises");
+    };
+    let Ok(cycle) = plan_spread(rt.alloc(), &service, VIEWERS.receivers) else {
+        panic!(rt; "there is no plan");
+    };
+    let reported = Reported {
+        class: Class::Any,
+        repeat: 1,
+        detail: Detail::Items,
+    };
+    let Ok(report) = report_promises_with(rt.alloc(), &cycle, &service, &promises, reported) else {
+        panic!(rt; "there is no report");
+    };
+    let begin =
+        "100/0000 22 fields 0.44 s of 1000000\n100/0000 head 15 fields 0.30 s\n100/0000 row 1 17 fields 0.34 s\n";
+    assert!(rt; report.text.as_str().starts_with(begin));
+    assert!(rt; report.late && report.deadline == Some(22));
     Ok(())
 }

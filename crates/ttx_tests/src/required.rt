@@ -4,8 +4,10 @@ use crate::promised::{TWO, VIEWERS};
 use std::test::Fail;
 use ttx_certify::Verdict;
 use ttx_deadline::{
-    Asked, RequiredVerdict, certify_required, find_with, first_unmet, required_line,
+    Asked, LateRequiredVerdict, RequiredVerdict, certify_late_required, certify_required,
+    find_with, first_unmet, late_required_line, required_line,
 };
+use ttx_late::LateVerdict;
 use ttx_page::Class;
 use ttx_plan::plan_spread;
 use ttx_source::read_service;
@@ -68,5 +70,43 @@ fn deadlines_are_required(rt: HostRuntime) -> Result<(), Fail> {
         panic!(rt; "there is no line");
     };
     assert!(rt; line.as_str() == "no deadline 22 of 21\n");
+    Ok(())
+}
+
+// The next header of the magazine comes 29 slots after each page header: on 4 lines that is 8 fields after the 22 of the deadline.
+#[test]
+fn late_receivers_have_a_requirement(rt: HostRuntime) -> Result<(), Fail> {
+    let Ok(service) = read_service(rt.alloc(), TWO) else {
+        panic!(rt; "there is no service");
+    };
+    let Ok(cycle) = plan_spread(rt.alloc(), &service, VIEWERS.receivers) else {
+        panic!(rt; "there is no plan");
+    };
+    let asked = Asked {
+        class: Class::Any,
+        repeat: 1,
+        deadline: 22,
+    };
+    let Ok(found) = find_with(rt.alloc(), &cycle, &service, asked) else {
+        panic!(rt; "nothing is found");
+    };
+    let certificate = found.certificate;
+    let Ok(LateRequiredVerdict::Certified(LateVerdict::Yes { gap })) = certify_late_required(
+        rt.alloc(),
+        &cycle,
+        &service,
+        &certificate,
+        30,
+    ) else {
+        panic!(rt; "the deadline is not met");
+    };
+    assert!(rt; gap == 29);
+    let Ok(verdict) = certify_late_required(rt.alloc(), &cycle, &service, &certificate, 29) else {
+        panic!(rt; "there is no verdict");
+    };
+    let Ok(line) = late_required_line(rt.alloc(), &certificate, 2, verdict) else {
+        panic!(rt; "there is no line");
+    };
+    assert!(rt; line.as_str() == "no late-deadline 30 of 29\n");
     Ok(())
 }
