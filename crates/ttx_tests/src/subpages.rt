@@ -2,11 +2,13 @@
 
 use std::alloc::{AllocError, Global};
 use std::test::Fail;
-use ttx_cycle::Cycle;
-use ttx_page::Selection;
+use ttx_cycle::faulty::{FaultyReader, FaultyWriter};
+use ttx_cycle::{Counted, Cycle};
+use ttx_page::{Item, Selection};
 use ttx_source::{Service, read_service};
 use ttx_subpages::{
-    NumbersVerdict, certify_numbers, count_of, greatest_interval, least_stay, number_reports,
+    Lack, NumbersVerdict, certify_files_numbers, certify_numbers, count_of, first_lack,
+    greatest_interval, least_stay, longest_interval, number_reports, number_waits,
     numbers_verdict_text,
 };
 use ttx_witness::{Certificate, read_certificate};
@@ -88,7 +90,7 @@ static TOLD: [(usize, u8, &str); 5] = [
     (
         17,
         0,
-        "yes lines 1 repeat 1 deadline 20 pages 2 late 3\nnumber 100 pages 2 every 23 slots stays 1\n",
+        "yes lines 1 repeat 1 deadline 20 pages 2 late 3\nnumber 100 pages 2 every 23 slots stays 4\n",
     ),
     (10, 0, "no 14 unwhole 100/0001 links 8\n"),
     (14, 0, "no 14 unwhole 100/0002 links 12\n"),
@@ -130,7 +132,7 @@ fn stays_and_intervals(rt: HostRuntime) -> Result<(), Fail> {
         panic!(rt; "there is no service");
     };
     let mut slots = turns(rt.alloc())?;
-    // 100/0002 in the first turn gives way to empty slots, so 100/0001 stays five slots, and one.
+    // 100/0002 in the first turn gives way to empty slots, so 100/0001 stays eight slots, and four.
     for at in 4..8 {
         if let Some(held) = slots.get_mut(at) {
             *held = [0; 42];
@@ -144,11 +146,161 @@ fn stays_and_intervals(rt: HostRuntime) -> Result<(), Fail> {
     };
     let (one, two) = (Selection::Exact(first.id()), Selection::Exact(second.id()));
     assert!(rt; count_of(service.pages(), 1, 0) == 2 && count_of(service.pages(), 2, 0) == 0);
-    assert!(rt; least_stay(&cycle, one) == Some(1) && greatest_interval(&cycle, one) == 8);
-    assert!(rt; least_stay(&cycle, two) == Some(1) && greatest_interval(&cycle, two) == 16);
-    assert!(rt; least_stay(&cycle, Selection::AnySub(1, 0)) == Some(1));
+    assert!(rt; least_stay(&cycle, one) == Some(4) && greatest_interval(&cycle, one) == 8);
+    assert!(rt; least_stay(&cycle, two) == Some(4) && greatest_interval(&cycle, two) == 16);
+    assert!(rt; least_stay(&cycle, Selection::AnySub(1, 0)) == Some(4));
     assert!(rt; greatest_interval(&cycle, Selection::AnySub(1, 0)) == 8);
     assert!(rt; least_stay(&cycle, Selection::AnySub(1, 1)) == None);
     assert!(rt; greatest_interval(&cycle, Selection::AnySub(1, 1)) == 0);
+    Ok(())
+}
+
+#[test]
+fn the_first_lack(rt: HostRuntime) -> Result<(), Fail> {
+    let Ok(service) = read_service(rt.alloc(), SERVICE) else {
+        panic!(rt; "there is no service");
+    };
+    let mut slots = turns(rt.alloc())?;
+    let Some(cycle) = Cycle::of(slots.clone()?) else {
+        panic!(rt; "there is no cycle");
+    };
+    let Ok(lack) = first_lack(rt.alloc(), &cycle, &service, 1) else {
+        panic!(rt; "there is no answer");
+    };
+    assert!(rt; lack.is_none());
+    // Two lines in a field: each X/27/0 comes where a receiver may miss it.
+    let Ok(lack) = first_lack(rt.alloc(), &cycle, &service, 2) else {
+        panic!(rt; "there is no answer");
+    };
+    assert!(rt;
+        matches!(
+            &lack,
+            Some(Lack::Unwhole {
+                page: _,
+                item: Item::Links,
+                slot: 0
+            })
+        )
+    );
+    // The second X/27/0 of 100/0001 is lost.
+    if let Some(held) = slots.get_mut(10) {
+        *held = [0; 42];
+    }
+    let Some(cycle) = Cycle::of(slots) else {
+        panic!(rt; "there is no cycle");
+    };
+    let Ok(lack) = first_lack(rt.alloc(), &cycle, &service, 1) else {
+        panic!(rt; "there is no answer");
+    };
+    assert!(rt;
+        matches!(
+            &lack,
+            Some(Lack::Unwhole {
+                page: _,
+                item: Item::Links,
+                slot: 8
+            })
+        )
+    );
+    Ok(())
+}
+
+// Slots that give way to empty slots, the most slots after which each subpage comes again, and the line for `wait`: one line in a field, so
+// five slots in a tenth of a second.
+static WAITS: [(usize, usize, Option<usize>, &str); 4] = [
+    (
+        0,
+        0,
+        Some(8),
+        "100 2 subpages, each at least 0.0 s, again within 0.2 s\n",
+    ),
+    (
+        4,
+        8,
+        Some(16),
+        "100 2 subpages, each at least 0.0 s, again within 0.4 s\n",
+    ),
+    (
+        4,
+        12,
+        Some(16),
+        "100 2 subpages, each at least 0.0 s, again within 0.4 s\n",
+    ),
+    (
+        0,
+        4,
+        Some(16),
+        "100 2 subpages, each at least 0.0 s, again within 0.4 s\n",
+    ),
+];
+
+#[test]
+fn waits_for_subpages(rt: HostRuntime) -> Result<(), Fail> {
+    let Ok(service) = read_service(rt.alloc(), SERVICE) else {
+        panic!(rt; "there is no service");
+    };
+    for (from, to, interval, wanted) in &WAITS {
+        let mut slots = turns(rt.alloc())?;
+        for at in *from..*to {
+            if let Some(held) = slots.get_mut(at) {
+                *held = [0; 42];
+            }
+        }
+        let Some(cycle) = Cycle::of(slots) else {
+            panic!(rt; "there is no cycle");
+        };
+        assert!(rt;
+            longest_interval(&cycle, service.pages(), 1, 0) == *interval,
+            "{from}"
+        );
+        let Ok(text) = number_waits(rt.alloc(), &cycle, &service) else {
+            panic!(rt; "there is no text");
+        };
+        assert!(rt; text.as_str() == *wanted, "{from} {text}");
+    }
+    Ok(())
+}
+
+#[test]
+fn a_subpage_that_is_not_sent(rt: HostRuntime) -> Result<(), Fail> {
+    let Ok(service) = read_service(rt.alloc(), SERVICE) else {
+        panic!(rt; "there is no service");
+    };
+    let slots = Vec::from_slice(
+        rt.alloc(),
+        &[subpage(0x02, 0xc1), [0; 42], LINKS, filling()],
+    )?;
+    let Some(cycle) = Cycle::of(slots) else {
+        panic!(rt; "there is no cycle");
+    };
+    let Ok(text) = number_waits(rt.alloc(), &cycle, &service) else {
+        panic!(rt; "there is no text");
+    };
+    assert!(rt; text.as_str() == "100 2 subpages, not all sent\n", "{text}");
+    Ok(())
+}
+
+#[test]
+fn files_are_certified_by_number(rt: HostRuntime) -> Result<(), Fail> {
+    let mut bytes = Vec::new(rt.alloc());
+    for slot in &turns(rt.alloc())? {
+        bytes.extend_from_slice(slot)?;
+    }
+    let mut room = [0; 120];
+    let mut cycle = Counted::new(FaultyReader::new(bytes.as_slice(), 41, None));
+    let mut service = Counted::new(FaultyReader::new(SERVICE, 9, None));
+    let mut certificate = Counted::new(FaultyReader::new(CERTIFICATE, 10, None));
+    let mut writer = Counted::new(FaultyWriter::new(&mut room, 7, None));
+    let answer = certify_files_numbers(
+        rt.alloc(),
+        &mut cycle,
+        &mut service,
+        &mut certificate,
+        &mut writer,
+    );
+    assert!(rt; matches!(&answer, Ok(NumbersVerdict::Yes { gap: 3 })));
+    let wanted =
+        b"yes lines 1 repeat 1 deadline 20 pages 2 late 3\nnumber 100 pages 2 every 23 slots stays 4\n";
+    assert!(rt; writer.get_ref().taken() == wanted.as_slice());
     Ok(())
 }
