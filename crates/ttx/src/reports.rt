@@ -1,6 +1,7 @@
 //! What a fault says on standard error, and the status that it has.
 
 use ttx_cycle::Counted;
+use ttx_files::FilesFault;
 use ttx_tool::{ToolFault, commands};
 
 // The status of a fault, also where standard error takes no line.
@@ -23,7 +24,7 @@ pub fn report(rt: &HostRuntime, fault: &ToolFault) -> u8 {
     let mut errors = Counted::new(rt.stderr());
     match commands::report(rt.alloc(), fault, &mut errors) {
         Ok(status) => status,
-        Err(ToolFault::NoMemory) => memory_fault(rt),
+        Err(ToolFault::Files(FilesFault::NoMemory)) => memory_fault(rt),
         Err(_) => FAULT,
     }
 }

@@ -1,14 +1,16 @@
 //! `check`: reports what is wrong, or probably wrong, in the text of a service.
 
-ghost use Rattle.std.specs.Prelude.{◌≡◌, IfSome, IfOk, string_bytes};
+ghost use Rattle.std.specs.Prelude.{◌∷◌, [], None, IfSome, IfErr};
 ghost use Rattle.ttx_cycle.specs.Counters.{inner_of, faults_of};
-ghost use Rattle.ttx_check.specs.Checking.{Checks, CountsCheck, IsUntouchedByCheck};
+ghost use Rattle.ttx_files.specs.Answers.{IsUntouched, is_write};
+ghost use Rattle.ttx_files.specs.Devices.{AtService, input, output, failed_at, IsFirstFailure};
+ghost use Rattle.ttx_check.specs.Checking.{IsCheckFault, Checks};
 
-use crate::faults::CheckFault;
 use crate::reports::report;
 use std::alloc::Global;
 use std::io::{Read, Write};
-use ttx_cycle::{Counted, MOST_BYTES, read_text, write_bytes};
+use ttx_cycle::Counted;
+use ttx_files::{FilesFault, read_service_text, write_line};
 
 /// Reads the text of a service, of at most 4,194,304 bytes, and writes the report on it. Returns the status: 2 if the text is
 /// refused, otherwise 0.
@@ -19,21 +21,23 @@ pub fn check<R: Read, W: Write>(
     alloc: Global,
     reader: &mut Counted<R>,
     writer: &mut Counted<W>,
-) -> Result<u8, CheckFault>
+) -> Result<u8, FilesFault>
     ensures bytes { IfSome (R.remaining (inner_of reader.old))
         (λ bytes. Checks bytes (W.contents (inner_of writer.old)) (W.contents (inner_of writer.new)) result) }
-    ensures faults { CountsCheck result (faults_of reader.old) (faults_of reader.new) (faults_of writer.old) (faults_of writer.new) }
-    ensures untouched { IsUntouchedByCheck result writer.old writer.new }
+    ensures own { IfErr result IsCheckFault }
+    ensures faults { IsFirstFailure (input AtService None (faults_of reader.old) (faults_of reader.new)
+        ∷ output (faults_of writer.old) (faults_of writer.new) ∷ []) (failed_at result) }
+    ensures untouched { IsUntouched is_write result writer.old writer.new }
 {
-    let text = match read_text(alloc, reader, MOST_BYTES) {
+    let text = match read_service_text(alloc, reader) {
         Ok(text) => text,
-        Err(fault) => return Err(CheckFault::from_text(fault)),
+        Err(fault) => return Err(fault),
     };
     let Ok(report) = report(alloc, text.as_slice()) else {
-        return Err(CheckFault::NoMemory);
+        return Err(FilesFault::NoMemory);
     };
-    match write_bytes(writer, report.text.as_bytes()) {
+    match write_line(writer, report.text.as_bytes()) {
         Ok(()) => Ok(report.status),
-        Err(fault) => Err(CheckFault::from_write(fault)),
+        Err(fault) => Err(fault),
     }
 }

@@ -4,7 +4,6 @@
 mod acceptance;
 mod checking;
 mod entries;
-pub mod faults;
 mod links;
 mod page_warnings;
 pub mod parts;
@@ -22,7 +21,6 @@ pub mod warning;
 mod warning_lines;
 
 pub use checking::check;
-pub use faults::CheckFault;
 pub use reports::{Checked, report};
 pub use service_warnings::warnings;
 pub use warning::Warning;

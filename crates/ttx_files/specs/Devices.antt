@@ -7,6 +7,8 @@
 --   IsFirstFailure          the first device that failed is one at this place; or none failed
 --   AllRight                what was read at these devices is as it should be
 --   failed_at               the place of which an answer says that its device failed
+--   text_place, place_of    the place of a text, and of the file that a fault is of
+--   IsAmong, IsOf           the fault is of a file at one of these places, or want of memory
 use Rattle.std.specs.Prelude.{◌≡◌, ◌⊎◌, ℕ, List, [], ◌∷◌, ⊤, Option, Some, None, IfSome, Result, Err}
 use Rattle.ttx_cycle.specs.Counts.{HasRisen}
 use Rattle.ttx_cycle.specs.Files.{IsPacketFile}
@@ -15,7 +17,8 @@ use Rattle.ttx_source.specs.Services.{ServiceFields}
 use Rattle.ttx_certificate.specs.Entries.{CertificateFields}
 use Rattle.ttx_files.specs.Texts.{IsServiceText, IsCertificateText}
 use Rattle.ttx_files.specs.declared.faults.FilesFault.{FilesFault}
-use Rattle.ttx_files.specs.declared.faults.FilesFault.TheVariants.{Cycle, Read, Write}
+use Rattle.ttx_files.specs.declared.faults.FilesFault.TheVariants.{Cycle, Service, Certificate, Read, TooLong, Write, NoMemory}
+use Rattle.ttx_files.specs.declared.faults.TextFile.{TextFile}
 use Rattle.ttx_files.specs.declared.faults.TextFile.TheVariants as text
 
 -- the places on a command line; AtOutput is each file that is written, and the line that is printed
@@ -65,3 +68,24 @@ failed_at (Err (Read text.Service)) = Some AtService
 failed_at (Err (Read text.Certificate)) = Some AtCertificate
 failed_at (Err (Write written)) = Some AtOutput
 failed_at _ = None
+
+abbrev pub text_place : TextFile → Place
+text_place text.Service = AtService
+text_place text.Certificate = AtCertificate
+
+abbrev pub place_of : FilesFault → Option Place
+place_of (Cycle fault) = Some AtCycle
+place_of (Service error) = Some AtService
+place_of (Certificate fault) = Some AtCertificate
+place_of (Read which) = Some (text_place which)
+place_of (TooLong which) = Some (text_place which)
+place_of (Write written) = Some AtOutput
+place_of NoMemory = None
+
+abbrev pub IsAmong : List Place → Option Place → Type 0
+IsAmong places None = ⊤
+IsAmong [] (Some place) = ⊥
+IsAmong (p ∷ places) (Some place) = (p ≡ place) ⊎ IsAmong places (Some place)
+
+abbrev pub IsOf : List Place → FilesFault → Type 0
+IsOf places fault = IsAmong places (place_of fault)

@@ -3,10 +3,11 @@
 --   IsServiceText, IsCertificateText        what the two texts are
 --   IsServiceFault, IsCertificateFault      why a text is none
 --   viewed_by               an answer, with its value as a plain record
---   ReadsPackets, ReadsService, ReadsWitness        what is answered for the bytes of a packet file, a service definition, a certificate
---   of_text                 why a text is not read, as a fault of this text
---   is_of_text              not the fault of a packet file or of a write, which no reader of a text answers
-use Rattle.std.specs.Prelude.{◌≡◌, ◌⊎◌, ℕ, ◌<◌, ◌≤◌, List, length, ⊤, Bool, true, false, Result, Ok, Err}
+--   ReadsPackets, ReadsServiceText, ReadsService, ReadsWitness      what is answered for the bytes of a packet file, of a text, a service
+--                           definition, a certificate
+--   of_text, IsUnread       why a text is not read, as a fault of this text, and that a fault is one of these
+use Rattle.std.specs.Prelude.{◌≡◌, ◌⊎◌, ℕ, ◌<◌, ◌≤◌, List, length, ⊤, Result, Ok, Err, Vec}
+use Rattle.std.specs.declared.alloc.Global.{Global}
 use Rattle.ttx_cycle.specs.Bounded.{most_bytes}
 use Rattle.ttx_cycle.specs.Files.{IsPacketFile}
 use Rattle.ttx_cycle.specs.Reading.{Judged}
@@ -21,7 +22,7 @@ use Rattle.ttx_certificate.specs.Entries.{CertificateFields}
 use Rattle.ttx_certificate.specs.declared.certificate_faults.CertFault.{CertFault}
 use Rattle.ttx_certificate.specs.declared.certificate_faults.CertFault.TheVariants as witness
 use Rattle.ttx_files.specs.declared.faults.FilesFault.{FilesFault}
-use Rattle.ttx_files.specs.declared.faults.FilesFault.TheVariants.{Cycle, Service, Certificate, Read, TooLong, Write, NoMemory}
+use Rattle.ttx_files.specs.declared.faults.FilesFault.TheVariants.{Cycle, Service, Certificate, Read, TooLong, NoMemory}
 use Rattle.ttx_files.specs.declared.faults.TextFile.{TextFile}
 use Rattle.ttx_files.specs.declared.faults.TextFile.TheVariants as text
 
@@ -55,6 +56,14 @@ ReadsPackets bytes (Ok slots) = IsPacketFile bytes slots
 ReadsPackets bytes (Err (Cycle fault)) = Judged bytes (Err fault)
 ReadsPackets bytes (Err _) = ⊥
 
+-- the bytes themselves, whatever they say
+abbrev pub ReadsServiceText : List ℕ → Result (Vec ℕ Global) FilesFault → Type 0
+ReadsServiceText bytes (Ok read) = (read.items ≡ bytes) × (length bytes ≤ most_bytes)
+ReadsServiceText bytes (Err (Read which)) = which ≡ text.Service
+ReadsServiceText bytes (Err (TooLong which)) = (which ≡ text.Service) × (most_bytes < length bytes)
+ReadsServiceText bytes (Err NoMemory) = ⊤
+ReadsServiceText bytes (Err _) = ⊥
+
 abbrev pub ReadsService : List ℕ → Result ServiceFields FilesFault → Type 0
 ReadsService bytes (Ok service) = IsServiceText bytes service
 ReadsService bytes (Err (Service error)) = IsServiceFault bytes error
@@ -76,7 +85,8 @@ of_text which reading.Read = Read which
 of_text which reading.TooLong = TooLong which
 of_text which reading.NoMemory = NoMemory
 
-abbrev pub is_of_text : FilesFault → Bool
-is_of_text (Cycle fault) = false
-is_of_text (Write written) = false
-is_of_text _ = true
+abbrev pub IsUnread : TextFile → FilesFault → Type 0
+IsUnread which (Read file) = file ≡ which
+IsUnread which (TooLong file) = file ≡ which
+IsUnread which NoMemory = ⊤
+IsUnread which _ = ⊥

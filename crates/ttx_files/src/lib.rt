@@ -8,8 +8,8 @@ mod writers;
 
 pub use faults::{FilesFault, TextFile};
 pub use readers::{
-    Inputs, Served, Texts, read_definition, read_inputs, read_packets, read_served, read_texts,
-    read_witness,
+    Inputs, Served, Texts, read_definition, read_inputs, read_packets, read_served,
+    read_service_text, read_text, read_texts, read_witness,
 };
-pub use told::{Told, write_told};
+pub use told::{Filed, Told, write_told};
 pub use writers::{write_both, write_line};

@@ -1,18 +1,20 @@
 //! Readers of packet files, service definitions and certificates, alone and together.
 
-ghost use Rattle.std.specs.Prelude.{◌≡◌, true, IfSome, IfOk, IfErr, ◌∷◌, []};
+ghost use Rattle.std.specs.Prelude.{◌≡◌, IfSome, IfOk, IfErr, ◌∷◌, []};
+ghost use Rattle.ttx_cycle.specs.Bounded.{most_bytes, ReadsText, CountsText};
 ghost use Rattle.ttx_cycle.specs.Counters.{inner_of, faults_of};
 ghost use Rattle.ttx_cycle.specs.Cycles.{slots_of};
 ghost use Rattle.ttx_certificate.specs.Certificates.{fields_of};
-ghost use Rattle.ttx_files.specs.Devices.{AtCycle, AtService, AtCertificate, input, failed_at, IsRight, IsFirstFailure};
-ghost use Rattle.ttx_files.specs.Texts.{viewed_by, of_text, is_of_text, ReadsPackets, ReadsService, ReadsWitness};
+ghost use Rattle.ttx_files.specs.Devices.{AtCycle, AtService, AtCertificate, input, failed_at, IsRight, IsFirstFailure, text_place, IsOf};
+ghost use Rattle.ttx_files.specs.Texts.{viewed_by, of_text, IsUnread, ReadsPackets, ReadsServiceText, ReadsService, ReadsWitness};
+ghost use Rattle.ttx_files.specs.declared.faults.TextFile.TheVariants as text;
 ghost use Rattle.ttx_files.specs.Inputs.{ReadsTexts, ReadsServed, ReadsInputs};
 
 use crate::faults::{FilesFault, TextFile};
 use std::alloc::Global;
 use std::io::Read;
 use ttx_certificate::{Certificate, read_certificate};
-use ttx_cycle::{Counted, Cycle, MOST_BYTES, TextFault, read_cycle, read_text};
+use ttx_cycle::{Counted, Cycle, MOST_BYTES, TextFault, read_cycle};
 use ttx_source::{Service, read_service};
 
 /// A service definition and a certificate.
@@ -40,6 +42,7 @@ pub struct Inputs {
 /// Reads a packet file. Its faults are those of `read_cycle`, as `Cycle`.
 pub fn read_packets<R: Read>(alloc: Global, reader: &mut Counted<R>) -> Result<Cycle, FilesFault>
     ensures bytes { IfSome (R.remaining (inner_of reader.old)) (λ bytes. ReadsPackets bytes (viewed_by slots_of result)) }
+    ensures own { IfErr result (IsOf (AtCycle ∷ [])) }
     ensures faults { IsFirstFailure (input AtCycle (R.remaining (inner_of reader.old)) (faults_of reader.old) (faults_of reader.new) ∷ [])
         (failed_at result) }
 {
@@ -52,12 +55,38 @@ pub fn read_packets<R: Read>(alloc: Global, reader: &mut Counted<R>) -> Result<C
 // Why a text is not read, as a fault of this text.
 fn text_fault(which: TextFile, fault: TextFault) -> FilesFault
     ensures same { result ≡ of_text which fault }
-    ensures own { is_of_text result ≡ true }
+    ensures own { IsOf (text_place which ∷ []) result }
+    ensures unread { IsUnread which result }
 {
     match fault {
         TextFault::Read => FilesFault::Read { which },
         TextFault::TooLong => FilesFault::TooLong { which },
         TextFault::NoMemory => FilesFault::NoMemory,
+    }
+}
+
+/// Reads the bytes of a text of at most 4,194,304 bytes, whatever it says.
+pub fn read_text<R: Read>(alloc: Global, reader: &mut Counted<R>) -> Result<Vec<u8>, TextFault>
+    ensures bytes { IfSome (R.remaining (inner_of reader.old)) (λ bytes. ReadsText bytes most_bytes result) }
+    ensures faults { CountsText result (faults_of reader.old) (faults_of reader.new) }
+{
+    ttx_cycle::read_text(alloc, reader, MOST_BYTES)
+}
+
+/// Reads the bytes of the text of a service, whatever it says. Its faults are `Read`, `TooLong` and `NoMemory`.
+pub fn read_service_text<R: Read>(
+    alloc: Global,
+    reader: &mut Counted<R>,
+) -> Result<Vec<u8>, FilesFault>
+    ensures bytes { IfSome (R.remaining (inner_of reader.old)) (λ bytes. ReadsServiceText bytes result) }
+    ensures own { IfErr result (IsOf (AtService ∷ [])) }
+    ensures unread { IfErr result (IsUnread text.Service) }
+    ensures faults { IsFirstFailure (input AtService (R.remaining (inner_of reader.old)) (faults_of reader.old) (faults_of reader.new) ∷ [])
+        (failed_at result) }
+{
+    match read_text(alloc, reader) {
+        Ok(text) => Ok(text),
+        Err(fault) => Err(text_fault(TextFile::Service, fault)),
     }
 }
 
@@ -67,13 +96,13 @@ pub fn read_definition<R: Read>(
     reader: &mut Counted<R>,
 ) -> Result<Service, FilesFault>
     ensures bytes { IfSome (R.remaining (inner_of reader.old)) (λ bytes. ReadsService bytes result) }
-    ensures own { IfErr result (λ fault. is_of_text fault ≡ true) }
+    ensures own { IfErr result (IsOf (AtService ∷ [])) }
     ensures faults { IsFirstFailure (input AtService (R.remaining (inner_of reader.old)) (faults_of reader.old) (faults_of reader.new) ∷ [])
         (failed_at result) }
 {
-    let text = match read_text(alloc, reader, MOST_BYTES) {
+    let text = match read_service_text(alloc, reader) {
         Ok(text) => text,
-        Err(fault) => return Err(text_fault(TextFile::Service, fault)),
+        Err(fault) => return Err(fault),
     };
     match read_service(alloc, text.as_slice()) {
         Ok(service) => Ok(service),
@@ -87,10 +116,11 @@ pub fn read_witness<R: Read>(
     reader: &mut Counted<R>,
 ) -> Result<Certificate, FilesFault>
     ensures bytes { IfSome (R.remaining (inner_of reader.old)) (λ bytes. ReadsWitness bytes (viewed_by fields_of result)) }
+    ensures own { IfErr result (IsOf (AtCertificate ∷ [])) }
     ensures faults { IsFirstFailure (input AtCertificate (R.remaining (inner_of reader.old)) (faults_of reader.old) (faults_of reader.new) ∷ [])
         (failed_at result) }
 {
-    let text = match read_text(alloc, reader, MOST_BYTES) {
+    let text = match read_text(alloc, reader) {
         Ok(text) => text,
         Err(fault) => return Err(text_fault(TextFile::Certificate, fault)),
     };
@@ -108,6 +138,7 @@ pub fn read_texts<A: Read, B: Read>(
 ) -> Result<Texts, FilesFault>
     ensures bytes { IfSome (A.remaining (inner_of service.old)) (λ a.
         IfSome (B.remaining (inner_of certificate.old)) (λ b. ReadsTexts a b result)) }
+    ensures own { IfErr result (IsOf (AtService ∷ AtCertificate ∷ [])) }
     ensures right { IfOk result (λ _. IsRight AtService (A.remaining (inner_of service.old)) × IsRight AtCertificate (B.remaining (inner_of certificate.old))) }
     ensures faults { IsFirstFailure (input AtService (A.remaining (inner_of service.old)) (faults_of service.old) (faults_of service.new)
         ∷ input AtCertificate (B.remaining (inner_of certificate.old)) (faults_of certificate.old) (faults_of certificate.new) ∷ [])
@@ -134,6 +165,7 @@ pub fn read_served<A: Read, B: Read>(
 ) -> Result<Served, FilesFault>
     ensures bytes { IfSome (A.remaining (inner_of cycle.old)) (λ a.
         IfSome (B.remaining (inner_of service.old)) (λ b. ReadsServed a b result)) }
+    ensures own { IfErr result (IsOf (AtCycle ∷ AtService ∷ [])) }
     ensures right { IfOk result (λ _. IsRight AtCycle (A.remaining (inner_of cycle.old)) × IsRight AtService (B.remaining (inner_of service.old))) }
     ensures faults { IsFirstFailure (input AtCycle (A.remaining (inner_of cycle.old)) (faults_of cycle.old) (faults_of cycle.new)
         ∷ input AtService (B.remaining (inner_of service.old)) (faults_of service.old) (faults_of service.new) ∷ [])
@@ -159,6 +191,7 @@ pub fn read_inputs<A: Read, B: Read, C: Read>(
     ensures bytes { IfSome (A.remaining (inner_of cycle.old)) (λ a.
         IfSome (B.remaining (inner_of service.old)) (λ b.
         IfSome (C.remaining (inner_of certificate.old)) (λ c. ReadsInputs a b c result))) }
+    ensures own { IfErr result (IsOf (AtCycle ∷ AtService ∷ AtCertificate ∷ [])) }
     ensures right { IfOk result (λ _. IsRight AtCycle (A.remaining (inner_of cycle.old)) × IsRight AtService (B.remaining (inner_of service.old))
         × IsRight AtCertificate (C.remaining (inner_of certificate.old))) }
     ensures faults { IsFirstFailure (input AtCycle (A.remaining (inner_of cycle.old)) (faults_of cycle.old) (faults_of cycle.new)

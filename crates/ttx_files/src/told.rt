@@ -1,4 +1,4 @@
-//! The answer to files: a verdict and its line.
+//! The answer to files: a verdict and its line, alone or with a file.
 
 ghost use Rattle.ttx_cycle.specs.Counters.{inner_of, faults_of};
 ghost use Rattle.ttx_files.specs.Answers.{IsUntouched, is_write};
@@ -13,6 +13,14 @@ use ttx_cycle::Counted;
 #[derive(Drop)]
 pub struct Told<V> {
     pub verdict: V,
+    pub line: String,
+}
+
+/// A verdict, the bytes of the file that goes with it, and the line that says it.
+#[derive(Drop)]
+pub struct Filed<V> {
+    pub verdict: V,
+    pub file: Vec<u8>,
     pub line: String,
 }
 

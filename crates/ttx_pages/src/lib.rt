@@ -1,7 +1,6 @@
 //! The pages of a cycle: its headers, and what is sent under them.
 #![tactic(auto)]
 
-pub mod faults;
 mod firsts;
 pub mod keys;
 pub mod laws;
@@ -11,7 +10,6 @@ mod paging;
 mod rest;
 mod tallies;
 
-pub use faults::PagesFault;
 pub use firsts::page_headers;
 pub use keys::Part;
 pub use listing::pages_text;

@@ -1,15 +1,17 @@
 //! The command `pages`: lists the pages of a packet file.
 
-ghost use Rattle.std.specs.Prelude.{IfSome};
+ghost use Rattle.std.specs.Prelude.{◌∷◌, [], IfSome, IfErr};
 ghost use Rattle.ttx_cycle.specs.Counters.{inner_of, faults_of};
+ghost use Rattle.ttx_files.specs.Answers.{IsUntouched, is_write};
+ghost use Rattle.ttx_files.specs.Devices.{AtCycle, AtOutput, input, output, failed_at, IsFirstFailure, IsOf};
 ghost use Rattle.ttx_pages.specs.Listing.{pages_text};
-ghost use Rattle.ttx_pages.specs.Paging.{WritesTextOf, CountsPages, IsUntouchedByPages};
+ghost use Rattle.ttx_pages.specs.Paging.{WritesTextOf};
 
-use crate::faults::PagesFault;
 use crate::listing::pages_text;
 use std::alloc::Global;
 use std::io::{Read, Write};
-use ttx_cycle::{Counted, read_cycle, write_bytes};
+use ttx_cycle::Counted;
+use ttx_files::{FilesFault, read_packets, write_line};
 
 /// Reads a packet file and writes a line for each page that has a header in it, by rising page numbers, and a line for what belongs to
 /// no page.
@@ -20,13 +22,15 @@ pub fn pages<R: Read, W: Write>(
     alloc: Global,
     reader: &mut Counted<R>,
     writer: &mut Counted<W>,
-) -> Result<(), PagesFault>
+) -> Result<(), FilesFault>
     ensures bytes { IfSome (R.remaining (inner_of reader.old))
         (λ bytes. WritesTextOf pages_text bytes (W.contents (inner_of writer.old)) (W.contents (inner_of writer.new)) result) }
-    ensures faults { CountsPages result (faults_of reader.old) (faults_of reader.new) (faults_of writer.old) (faults_of writer.new) }
-    ensures untouched { IsUntouchedByPages result writer.old writer.new }
+    ensures own { IfErr result (IsOf (AtCycle ∷ AtOutput ∷ [])) }
+    ensures faults { IsFirstFailure (input AtCycle (R.remaining (inner_of reader.old)) (faults_of reader.old) (faults_of reader.new)
+        ∷ output (faults_of writer.old) (faults_of writer.new) ∷ []) (failed_at result) }
+    ensures untouched { IsUntouched is_write result writer.old writer.new }
 {
-    let cycle = read_cycle(alloc, reader).map_err(PagesFault::Cycle)?;
-    let text = pages_text(alloc, cycle.slots()).map_err(|_| PagesFault::NoMemory)?;
-    write_bytes(writer, text.as_bytes()).map_err(PagesFault::from_write)
+    let cycle = read_packets(alloc, reader)?;
+    let text = pages_text(alloc, cycle.slots()).map_err(|_| FilesFault::NoMemory)?;
+    write_line(writer, text.as_bytes())
 }

@@ -1,10 +1,9 @@
-mod AnsweredFaults
+mod Devices
 mod AskedReceivers
 mod ReadHeaders
 mod FieldLines
 mod Heard
 mod FoundNothing
-mod TwoInputs
 mod FreshUntilHeader
 mod SameInputs
 mod PlannedFiles
@@ -13,11 +12,7 @@ mod PromisedPlans
 mod TooLong
 mod ThreeInputs
 mod ServiceIds
-mod ExtractInputs
 mod ReplayInputs
-mod ReadingBoth
-mod ReadingPromised
 mod ShownFile
 mod CertificateLengths
 mod NamedSlots
-mod FailedDevices

@@ -4,30 +4,26 @@
 --   WritesDeadline, TellsDeadline, TellsNo, TellsFound    what goes out where there is a deadline, and where there is none
 --   TellsVerdict            the same, whatever the verdict
 --   IsFoundAndTold, IsFinding    what is found of a cycle and a service, and of their texts, and what goes out
---   IsNoFinding, ReadsBoth, FindsText    why nothing is found; what is read of both, what is answered
+--   IsNoFinding, FindsText  why nothing is found; what is answered
 --   FindsFiles              what was written to the certificate's file and to the output, at each answer
---   CountsInputs, CountsFind        faults of devices are answered only where they were counted
-use Rattle.std.specs.Prelude.{◌≡◌, ℕ, ◌≤◌, List, [], ◌∷◌, ◌++◌, length, codes, string_bytes, ⊤, Option, Some, None, Result, Ok, Err}
+use Rattle.std.specs.Prelude.{◌≡◌, ℕ, ◌≤◌, List, [], ◌∷◌, ◌++◌, length, codes, string_bytes, Option, Some, None, Result, Ok, Err}
 use Rattle.std.specs.Fmt.{decimal}
 use Rattle.std.specs.Io.KnownBytes.{Keeps}
 use Rattle.ttx_cycle.specs.Bounded.{most_bytes}
 use Rattle.ttx_cycle.specs.Files.{IsPacketFile}
+use Rattle.ttx_files.specs.Answers.{WritesBoth}
+use Rattle.ttx_files.specs.Inputs.{IsRefusedServed}
 use Rattle.ttx_files.specs.Texts.{IsServiceText}
+use Rattle.ttx_files.specs.declared.faults.FilesFault.TheVariants.{Write}
+use Rattle.ttx_files.specs.declared.told.Filed.{Filed}
 use Rattle.ttx_certify.specs.VerdictLines.{verdict_line}
 use Rattle.ttx_certify.specs.Verdicts.{IsVerdict, Means}
 use Rattle.ttx_certify.specs.declared.verdict.Verdict.{Verdict}
 use Rattle.ttx_certify.specs.declared.verdict.Verdict.TheVariants.{Yes, No}
-use Rattle.ttx_cycle.specs.Counts.{HasRisen}
-use Rattle.ttx_cycle.specs.Cycles.{slots_of}
-use Rattle.ttx_cycle.specs.Reading.{Judged}
-use Rattle.ttx_cycle.specs.declared.faults.CycleFault.TheVariants as cycle
 use Rattle.ttx_page.specs.declared.class.Class.{Class}
 use Rattle.ttx_source.specs.Services.{ServiceFields, pages_of}
-use Rattle.ttx_tool.specs.Plan.{IsNoText, WritesBoth, CountsBoth}
-use Rattle.ttx_tool.specs.declared.commands.find.Told.{Told}
-use Rattle.ttx_tool.specs.declared.commands.inputs.Inputs.{Inputs}
 use Rattle.ttx_tool.specs.declared.faults.ToolFault.{ToolFault}
-use Rattle.ttx_tool.specs.declared.faults.ToolFault.TheVariants.{Cycle, Read, Write, NoMemory, Counter}
+use Rattle.ttx_tool.specs.declared.faults.ToolFault.TheVariants.{Files}
 use Rattle.ttx_witness.specs.CertificateTexts.{certificate_text}
 use Rattle.ttx_witness.specs.Entries.{CertificateFields, IsCertificateFields, certificate_at}
 use Rattle.ttx_witness.specs.finding.Finding.{IsFoundFor}
@@ -83,17 +79,11 @@ pub record IsFinding (a b : List ℕ) (repeat : ℕ) (class : Class) (file line 
 
 -- why nothing is found: of these bytes there is no cycle, or there is and the text is that of no service
 abbrev pub IsNoFinding : List ℕ → List ℕ → ToolFault → Type 0
-IsNoFinding a b (Cycle fault) = Judged a (Err fault)
-IsNoFinding a b NoMemory = ⊤
-IsNoFinding a b fault = (slots : List (List ℕ)) × IsPacketFile a slots × IsNoText b fault
+IsNoFinding a b (Files fault) = IsRefusedServed a b fault
+IsNoFinding a b _ = ⊥
 
--- the two inputs, once they are read
-abbrev pub ReadsBoth : List ℕ → List ℕ → Result Inputs ToolFault → Type 0
-ReadsBoth a b (Ok inputs) = IsPacketFile a (slots_of inputs.cycle) × IsServiceText b inputs.service
-ReadsBoth a b (Err fault) = IsNoFinding a b fault
-
-abbrev pub FindsText : List ℕ → List ℕ → ℕ → Class → Result Told ToolFault → Type 0
-FindsText a b repeat class (Ok told) = IsFinding a b repeat class told.file.items (string_bytes told.line) told.status
+abbrev pub FindsText : List ℕ → List ℕ → ℕ → Class → Result (Filed ℕ) ToolFault → Type 0
+FindsText a b repeat class (Ok told) = IsFinding a b repeat class told.file.items (string_bytes told.line) told.verdict
 FindsText a b repeat class (Err fault) = IsNoFinding a b fault
 
 -- Ok: the bytes of the file and the line. A write fault: the first `written` bytes of both. Else nothing, and why nothing is found.
@@ -101,22 +91,7 @@ abbrev pub FindsFiles : List ℕ → List ℕ → ℕ → Class → Option (List
     Type 0
 FindsFiles a b repeat class file_old file_new old new (Ok status) =
     (file line : List ℕ) × IsFinding a b repeat class file line status × WritesBoth file line file_old file_new old new (Ok status)
-FindsFiles a b repeat class file_old file_new old new (Err (Write written)) =
+FindsFiles a b repeat class file_old file_new old new (Err (Files (Write written))) =
     (file line : List ℕ) × (status : ℕ) × IsFinding a b repeat class file line status
-    × WritesBoth {U = ℕ} file line file_old file_new old new (Err (Write written))
+    × WritesBoth {T = ℕ} file line file_old file_new old new (Err (Write written))
 FindsFiles a b repeat class file_old file_new old new (Err fault) = IsNoFinding a b fault × Keeps file_old file_new × Keeps old new
-
--- the faults counted by the readers of the cycle and of the service, before and after
-abbrev pub CountsInputs : {T : Type 0} → Result T ToolFault → ℕ → ℕ → ℕ → ℕ → Type 0
-CountsInputs (Err (Cycle cycle.Read)) cycle_old cycle_new service_old service_new = HasRisen cycle_old cycle_new
-CountsInputs (Err (Read which)) cycle_old cycle_new service_old service_new = HasRisen service_old service_new
-CountsInputs (Err (Write written)) cycle_old cycle_new service_old service_new = ⊥
-CountsInputs (Err (Counter fault)) cycle_old cycle_new service_old service_new = ⊥
-CountsInputs result cycle_old cycle_new service_old service_new = ⊤
-
--- and those of all four
-abbrev pub CountsFind : {T : Type 0} → Result T ToolFault → ℕ → ℕ → ℕ → ℕ → ℕ → ℕ → ℕ → ℕ → Type 0
-CountsFind (Err (Cycle cycle.Read)) cycle_old cycle_new service_old service_new file_old file_new old new = HasRisen cycle_old cycle_new
-CountsFind (Err (Read which)) cycle_old cycle_new service_old service_new file_old file_new old new = HasRisen service_old service_new
-CountsFind (Err (Counter fault)) cycle_old cycle_new service_old service_new file_old file_new old new = ⊥
-CountsFind result cycle_old cycle_new service_old service_new file_old file_new old new = CountsBoth result file_old file_new old new

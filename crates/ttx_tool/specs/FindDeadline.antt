@@ -10,17 +10,18 @@ use Rattle.ttx_cycle.specs.Files.{IsPacketFile}
 use Rattle.ttx_source.specs.Services.{ServiceFields, pages_of}
 use Rattle.ttx_certificate.specs.Entries.{CertificateFields}
 use Rattle.ttx_witness.specs.declared.faults.reason.Reason.{Reason}
+use Rattle.ttx_files.specs.Answers.{WritesBoth}
 use Rattle.ttx_files.specs.Texts.{IsServiceText}
+use Rattle.ttx_files.specs.declared.faults.FilesFault.TheVariants.{Write}
+use Rattle.ttx_files.specs.declared.told.Filed.{Filed}
 use Rattle.ttx_certify.specs.VerdictLines.{verdict_line}
 use Rattle.ttx_certify.specs.declared.verdict.Verdict.{Verdict}
 use Rattle.ttx_certify.specs.declared.verdict.Verdict.TheVariants.{Yes, No}
 use Rattle.ttx_deadline.specs.Deadlines.{IsFoundWith}
 use Rattle.ttx_deadline.specs.declared.finding.Asked.{Asked}
 use Rattle.ttx_tool.specs.Find.{WritesDeadline, IsNoFinding}
-use Rattle.ttx_tool.specs.Plan.{WritesBoth}
-use Rattle.ttx_tool.specs.declared.commands.find.Told.{Told}
 use Rattle.ttx_tool.specs.declared.faults.ToolFault.{ToolFault}
-use Rattle.ttx_tool.specs.declared.faults.ToolFault.TheVariants.{Write}
+use Rattle.ttx_tool.specs.declared.faults.ToolFault.TheVariants.{Files}
 
 -- nothing into the file, and the line of the no on so many pages
 abbrev pub TellsRefused : CertificateFields → ℕ → Reason → List ℕ → List ℕ → ℕ → Type 0
@@ -46,8 +47,8 @@ pub record IsAsked (a b : List ℕ) (asked : Asked) (file line : List ℕ) (stat
   pub service_is : IsServiceText b service
   pub told : IsAskedAndTold slots service asked file line status
 
-abbrev pub AsksText : List ℕ → List ℕ → Asked → Result Told ToolFault → Type 0
-AsksText a b asked (Ok told) = IsAsked a b asked told.file.items (string_bytes told.line) told.status
+abbrev pub AsksText : List ℕ → List ℕ → Asked → Result (Filed ℕ) ToolFault → Type 0
+AsksText a b asked (Ok told) = IsAsked a b asked told.file.items (string_bytes told.line) told.verdict
 AsksText a b asked (Err fault) = IsNoFinding a b fault
 
 -- Ok: the bytes of the file and the line. A write fault: the first `written` bytes of both. Else nothing, and why nothing is found.
@@ -55,7 +56,7 @@ abbrev pub AsksFiles : List ℕ → List ℕ → Asked → Option (List ℕ) →
     Type 0
 AsksFiles a b asked file_old file_new old new (Ok status) =
     (file line : List ℕ) × IsAsked a b asked file line status × WritesBoth file line file_old file_new old new (Ok status)
-AsksFiles a b asked file_old file_new old new (Err (Write written)) =
+AsksFiles a b asked file_old file_new old new (Err (Files (Write written))) =
     (file line : List ℕ) × (status : ℕ) × IsAsked a b asked file line status
-    × WritesBoth {U = ℕ} file line file_old file_new old new (Err (Write written))
+    × WritesBoth {T = ℕ} file line file_old file_new old new (Err (Write written))
 AsksFiles a b asked file_old file_new old new (Err fault) = IsNoFinding a b fault × Keeps file_old file_new × Keeps old new

@@ -1,4 +1,4 @@
-pub mod FilesFaults
+pub mod Devices
 pub mod Answers
 pub mod Certify
 pub mod Texts

@@ -4,11 +4,11 @@
 --   preview_text, preview_status    what is shown of it, and the status
 --   IsPreview, PreviewsText the same of the text of a service; what is answered for a text
 --   Previews                what was written at each answer
---   CountsPreview           faults of devices are answered only where they were counted
-use Rattle.std.specs.Prelude.{◌≡◌, ℕ, ◌<◌, List, [], ◌∷◌, length, take, string_bytes, ⊤, if◌then◌else◌, Option, Some, None, Result, Ok, Err}
+use Rattle.std.specs.Prelude.{◌≡◌, ℕ, ◌<◌, List, [], ◌∷◌, length, take, string_bytes, if◌then◌else◌, Option, Some, None, Result, Ok, Err}
 use Rattle.std.specs.Io.KnownBytes.{Appends, Keeps}
 use Rattle.ttx_files.specs.Texts.{IsServiceText}
-use Rattle.ttx_cycle.specs.Counts.{HasRisen}
+use Rattle.ttx_files.specs.declared.faults.FilesFault.TheVariants.{Write}
+use Rattle.ttx_files.specs.declared.told.Told.{Told}
 use Rattle.ttx_page.specs.Memories.{memory_of_page}
 use Rattle.ttx_page.specs.Pages.{Page, matches}
 use Rattle.ttx_page.specs.declared.selection.Selection.{Selection}
@@ -18,8 +18,7 @@ use Rattle.ttx_source.specs.Services.{ServiceFields, pages_of}
 use Rattle.ttx_tool.specs.Plan.{IsNoText}
 use Rattle.ttx_tool.specs.Show.{no_page_line}
 use Rattle.ttx_tool.specs.declared.faults.ToolFault.{ToolFault}
-use Rattle.ttx_tool.specs.declared.faults.ToolFault.TheVariants.{Cycle, Read, Write, Counter}
-use Rattle.ttx_tool.specs.declared.commands.writing.Told.{Told}
+use Rattle.ttx_tool.specs.declared.faults.ToolFault.TheVariants.{Files}
 use Rattle.ttx_arguments.specs.declared.orders.Look.{Look}
 
 abbrev pub first_match : Selection → List Page → Option Page
@@ -42,21 +41,13 @@ pub record IsPreview (bytes : List ℕ) (sel : Selection) (look : Look) (text : 
   pub text_is : text ≡ preview_text look (first_match sel (pages_of service))
   pub status_is : status ≡ preview_status (first_match sel (pages_of service))
 
-abbrev pub PreviewsText : List ℕ → Selection → Look → Result Told ToolFault → Type 0
-PreviewsText bytes sel look (Ok preview) = IsPreview bytes sel look (string_bytes preview.text) preview.status
+abbrev pub PreviewsText : List ℕ → Selection → Look → Result (Told ℕ) ToolFault → Type 0
+PreviewsText bytes sel look (Ok preview) = IsPreview bytes sel look (string_bytes preview.line) preview.verdict
 PreviewsText bytes sel look (Err fault) = IsNoText bytes fault
 
 -- Ok: the text went out. A write fault: its first `written` bytes. Else nothing, and why there is no service.
 abbrev pub Previews : List ℕ → Selection → Look → Option (List ℕ) → Option (List ℕ) → Result ℕ ToolFault → Type 0
 Previews bytes sel look old new (Ok status) = (text : List ℕ) × IsPreview bytes sel look text status × Appends old new text
-Previews bytes sel look old new (Err (Write written)) =
+Previews bytes sel look old new (Err (Files (Write written))) =
     (text : List ℕ) × (status : ℕ) × IsPreview bytes sel look text status × (written < length text) × Appends old new (take written text)
 Previews bytes sel look old new (Err fault) = IsNoText bytes fault × Keeps old new
-
--- the faults counted by the reader and by the writer, before and after
-abbrev pub CountsPreview : {T : Type 0} → Result T ToolFault → ℕ → ℕ → ℕ → ℕ → Type 0
-CountsPreview (Err (Read which)) read_old read_new write_old write_new = HasRisen read_old read_new
-CountsPreview (Err (Cycle fault)) read_old read_new write_old write_new = ⊥
-CountsPreview (Err (Counter fault)) read_old read_new write_old write_new = ⊥
-CountsPreview (Err (Write written)) read_old read_new write_old write_new = HasRisen write_old write_new
-CountsPreview result read_old read_new write_old write_new = ⊤

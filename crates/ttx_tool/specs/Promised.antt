@@ -14,7 +14,9 @@ use Rattle.ttx_cycle.specs.Bounded.{most_bytes}
 use Rattle.ttx_cycle.specs.Cycles.{slots_of}
 use Rattle.ttx_cycle.specs.Files.{IsCycle, IsPacketFile, file_of}
 use Rattle.ttx_cycle.specs.Reading.{Judged}
+use Rattle.ttx_files.specs.Answers.{WritesBoth}
 use Rattle.ttx_files.specs.Texts.{IsServiceText}
+use Rattle.ttx_files.specs.declared.faults.FilesFault.TheVariants.{Cycle, Service, Write, NoMemory}
 use Rattle.ttx_plan.specs.Spread.{IsTooLongSpread}
 use Rattle.ttx_plan.specs.declared.faults.PlanFault.{PlanFault}
 use Rattle.ttx_plan.specs.declared.faults.PlanFault.TheVariants as plan
@@ -29,14 +31,14 @@ use Rattle.ttx_source.specs.Promises.{PromiseFields, read_promises}
 use Rattle.ttx_source.specs.Services.{ServiceFields, read_bytes}
 use Rattle.ttx_source.specs.declared.faults.SourceError.{SourceError}
 use Rattle.ttx_source.specs.declared.faults.SourceFault.TheVariants as source
-use Rattle.ttx_tool.specs.Plan.{IsNoText, planned_line, WritesBoth}
+use Rattle.ttx_tool.specs.Plan.{IsNoText, planned_line}
 use Rattle.ttx_tool.specs.Reports.{Reports}
 use Rattle.ttx_tool.specs.declared.commands.plan_spread.Spread.{Spread}
 use Rattle.ttx_tool.specs.declared.commands.plan_spread.Spread.TheVariants as spread
 use Rattle.ttx_tool.specs.declared.commands.promised.Promised.{Promised}
 use Rattle.ttx_tool.specs.declared.commands.promised.PromisedInputs.{PromisedInputs}
 use Rattle.ttx_tool.specs.declared.faults.ToolFault.{ToolFault}
-use Rattle.ttx_tool.specs.declared.faults.ToolFault.TheVariants.{Cycle, Service, Write, NoMemory, Plan}
+use Rattle.ttx_tool.specs.declared.faults.ToolFault.TheVariants.{Files, Plan}
 
 pub record IsPromisedText (bytes : List ℕ) (service : ServiceFields) (promises : List PromiseFields) : Type 0 where
   pub text : IsServiceText bytes service
@@ -55,7 +57,7 @@ DefinesPromised bytes (Ok promised) =
 DefinesPromised bytes (Err error) = IsPromisedFault bytes error
 
 abbrev pub IsNoPromisedText : List ℕ → ToolFault → Type 0
-IsNoPromisedText bytes (Service error) = (length bytes ≤ most_bytes) × IsPromisedFault bytes error
+IsNoPromisedText bytes (Files (Service error)) = (length bytes ≤ most_bytes) × IsPromisedFault bytes error
 IsNoPromisedText bytes fault = IsNoText bytes fault
 
 abbrev pub ReadsPromised : List ℕ → Result Promised ToolFault → Type 0
@@ -64,8 +66,8 @@ ReadsPromised bytes (Err fault) = IsNoPromisedText bytes fault
 
 -- why nothing is read of a packet file and the text of a service with promises
 abbrev pub IsNoPromisedInput : List ℕ → List ℕ → ToolFault → Type 0
-IsNoPromisedInput a b (Cycle fault) = Judged a (Err fault)
-IsNoPromisedInput a b NoMemory = ⊤
+IsNoPromisedInput a b (Files (Cycle fault)) = Judged a (Err fault)
+IsNoPromisedInput a b (Files NoMemory) = ⊤
 IsNoPromisedInput a b fault = (slots : List (List ℕ)) × IsPacketFile a slots × IsNoPromisedText b fault
 
 abbrev pub ReadsPromisedInputs : List ℕ → List ℕ → Result PromisedInputs ToolFault → Type 0
@@ -115,9 +117,9 @@ Spreads bytes v (Err fault) = IsNoSpread bytes v fault
 abbrev pub WritesPlan : List (List ℕ) → Option (List ℕ) → Option (List ℕ) → Option (List ℕ) → Option (List ℕ) → Result ℕ ToolFault → Type 0
 WritesPlan slots file_old file_new old new (Ok status) =
     (status ≡ 0) × WritesBoth (file_of slots) (planned_line (length slots)) file_old file_new old new (Ok status)
-WritesPlan slots file_old file_new old new (Err (Write written)) =
-    WritesBoth {U = ℕ} (file_of slots) (planned_line (length slots)) file_old file_new old new (Err (Write written))
-WritesPlan slots file_old file_new old new (Err NoMemory) = Keeps file_old file_new × Keeps old new
+WritesPlan slots file_old file_new old new (Err (Files (Write written))) =
+    WritesBoth {T = ℕ} (file_of slots) (planned_line (length slots)) file_old file_new old new (Err (Write written))
+WritesPlan slots file_old file_new old new (Err (Files NoMemory)) = Keeps file_old file_new × Keeps old new
 WritesPlan slots file_old file_new old new (Err _) = ⊥
 
 -- a plan that keeps each promise is written; or only the lines of the pages that come too late, with status 1; or nothing, and why not

@@ -23,8 +23,9 @@ use Rattle.ttx_page.specs.declared.selection.Selection.{Selection}
 use Rattle.ttx_receiver.specs.Tuning.{stepped, tuned_at}
 use Rattle.ttx_render.specs.View.{view_of}
 use Rattle.ttx_tool.specs.ViewLines.{view_lines}
+use Rattle.ttx_files.specs.declared.faults.FilesFault.TheVariants.{Cycle, Write, NoMemory}
 use Rattle.ttx_tool.specs.declared.faults.ToolFault.{ToolFault}
-use Rattle.ttx_tool.specs.declared.faults.ToolFault.TheVariants.{Cycle, Write, NoMemory}
+use Rattle.ttx_tool.specs.declared.faults.ToolFault.TheVariants.{Files}
 
 pub record Tuning : Type 0 where
   pub class : Class
@@ -68,9 +69,9 @@ pub record IsReceivedFile (t : Tuning) (holds : List (List ℕ) → Memory) (sta
 abbrev pub Receives : Tuning → (List (List ℕ) → Memory) → ℕ → ℕ → List ℕ → Memory → Option (List ℕ) → Option (List ℕ) → Result ℕ ToolFault → Type 0
 Receives t holds start count bytes held before after (Ok status) =
     (status ≡ 0) × ((new : Memory) × IsReceivedFile t holds start count bytes held new × Appends before after (view_lines (view_of new)))
-Receives t holds start count bytes held before after (Err (Write written)) =
+Receives t holds start count bytes held before after (Err (Files (Write written))) =
     (new : Memory) × IsReceivedFile t holds start count bytes held new × (written < length (view_lines (view_of new)))
     × Appends before after (take written (view_lines (view_of new)))
-Receives t holds start count bytes held before after (Err (Cycle fault)) = Judged bytes (Err fault) × Keeps before after
-Receives t holds start count bytes held before after (Err NoMemory) = Keeps before after
+Receives t holds start count bytes held before after (Err (Files (Cycle fault))) = Judged bytes (Err fault) × Keeps before after
+Receives t holds start count bytes held before after (Err (Files NoMemory)) = Keeps before after
 Receives t holds start count bytes held before after (Err _) = ⊥

@@ -6,31 +6,26 @@
 --   IsRefutation, IsRefutingFiles    what is found of a cycle, a service and a certificate, and of their texts, and what goes out
 --   IsNoClass, IsClassFault, IsNoRefuting, RefutesText    why nothing is looked for; what is answered
 --   RefutesFiles            what was written to the counter-run's file and to the output, at each answer
---   CountsThree, CountsRefute       faults of devices are answered only where they were counted
 use Rattle.std.specs.Prelude.{◌≡◌, ◌↔◌, ℕ, Bool, true, List, [], ◌∷◌, ◌++◌, length, slice_get, codes, string_bytes, is_some, ⊤, Option, Some, None}
 use Rattle.std.specs.Prelude.{Result, Ok, Err, if◌then◌else◌}
 use Rattle.std.specs.Fmt.{decimal}
 use Rattle.std.specs.Io.KnownBytes.{Keeps}
 use Rattle.ttx_cycle.specs.Files.{IsPacketFile}
+use Rattle.ttx_files.specs.Answers.{WritesBoth}
 use Rattle.ttx_files.specs.Inputs.{IsRefused}
 use Rattle.ttx_files.specs.Texts.{IsServiceText, IsCertificateText}
-use Rattle.ttx_files.specs.declared.faults.FilesFault.{FilesFault}
-use Rattle.ttx_files.specs.declared.faults.TextFile.TheVariants as text
+use Rattle.ttx_files.specs.declared.faults.FilesFault.TheVariants.{Write, NoMemory}
+use Rattle.ttx_files.specs.declared.told.Filed.{Filed}
 use Rattle.ttx_counter.specs.Counters.{CounterRun}
 use Rattle.ttx_counter.specs.CounterTexts.{counter_text}
 use Rattle.ttx_counter.specs.Refutations.{IsCounterTo, IsUnrefuted}
-use Rattle.ttx_cycle.specs.Counts.{HasRisen}
-use Rattle.ttx_cycle.specs.declared.faults.CycleFault.TheVariants as cycle
 use Rattle.ttx_header.specs.Ids.{Id}
 use Rattle.ttx_page.specs.Pages.{Page}
 use Rattle.ttx_page.specs.declared.class.Class.{Class as ClassOf}
 use Rattle.ttx_page.specs.declared.class.Class.TheVariants.{Any, Clearing}
 use Rattle.ttx_source.specs.Services.{ServiceFields, pages_of}
-use Rattle.ttx_tool.specs.FilesFaults.{tool_fault}
-use Rattle.ttx_tool.specs.Plan.{WritesBoth, CountsBoth}
-use Rattle.ttx_tool.specs.declared.commands.refute.Told.{Told}
 use Rattle.ttx_tool.specs.declared.faults.ToolFault.{ToolFault}
-use Rattle.ttx_tool.specs.declared.faults.ToolFault.TheVariants.{Cycle, Read, Write, NoMemory, Class, Counter}
+use Rattle.ttx_tool.specs.declared.faults.ToolFault.TheVariants.{Files, Class}
 use Rattle.ttx_digits.specs.PageIds.{id_text}
 use Rattle.ttx_witness.specs.Entries.{CertificateFields, certificate_at}
 use Rattle.ttx_witness.specs.finding.Finding.{IsSentUnchanged, CanBeAccepted}
@@ -95,17 +90,17 @@ pub record IsNoClass (a b c : List ℕ) : Type 0 where
 -- the certificate isn't for receivers of any class, or memory is wanting
 abbrev pub IsClassFault : ClassOf → ToolFault → Type 0
 IsClassFault class Class = class ≡ Clearing
-IsClassFault class NoMemory = ⊤
+IsClassFault class (Files NoMemory) = ⊤
 IsClassFault class fault = ⊥
 
 -- why nothing is looked for: the certificate's class, or an input is refused
 abbrev pub IsNoRefuting : List ℕ → List ℕ → List ℕ → ToolFault → Type 0
 IsNoRefuting a b c Class = IsNoClass a b c
-IsNoRefuting a b c NoMemory = ⊤
-IsNoRefuting a b c fault = (refusal : FilesFault) × (fault ≡ tool_fault refusal) × IsRefused a b c refusal
+IsNoRefuting a b c (Files fault) = IsRefused a b c fault
+IsNoRefuting a b c _ = ⊥
 
-abbrev pub RefutesText : List ℕ → List ℕ → List ℕ → Bool → Result Told ToolFault → Type 0
-RefutesText a b c save (Ok told) = IsRefutingFiles a b c save told.file.items (string_bytes told.line) told.status
+abbrev pub RefutesText : List ℕ → List ℕ → List ℕ → Bool → Result (Filed ℕ) ToolFault → Type 0
+RefutesText a b c save (Ok told) = IsRefutingFiles a b c save told.file.items (string_bytes told.line) told.verdict
 RefutesText a b c save (Err fault) = IsNoRefuting a b c fault
 
 -- Ok: the bytes of the file and the line. A write fault: the first `written` bytes of both. Else nothing, and why nothing is looked for.
@@ -113,28 +108,7 @@ abbrev pub RefutesFiles : List ℕ → List ℕ → List ℕ → Bool → Option
     Result ℕ ToolFault → Type 0
 RefutesFiles a b c save file_old file_new old new (Ok status) =
     (file line : List ℕ) × IsRefutingFiles a b c save file line status × WritesBoth file line file_old file_new old new (Ok status)
-RefutesFiles a b c save file_old file_new old new (Err (Write written)) =
+RefutesFiles a b c save file_old file_new old new (Err (Files (Write written))) =
     (file line : List ℕ) × (status : ℕ) × IsRefutingFiles a b c save file line status
-    × WritesBoth {U = ℕ} file line file_old file_new old new (Err (Write written))
+    × WritesBoth {T = ℕ} file line file_old file_new old new (Err (Write written))
 RefutesFiles a b c save file_old file_new old new (Err fault) = IsNoRefuting a b c fault × Keeps file_old file_new × Keeps old new
-
--- the faults counted by the readers of the cycle, the service and the certificate, before and after
-abbrev pub CountsThree : {T : Type 0} → Result T ToolFault → ℕ → ℕ → ℕ → ℕ → ℕ → ℕ → Type 0
-CountsThree (Err (Cycle cycle.Read)) cycle_old cycle_new service_old service_new old new = HasRisen cycle_old cycle_new
-CountsThree (Err (Read text.Service)) cycle_old cycle_new service_old service_new old new = HasRisen service_old service_new
-CountsThree (Err (Read text.Certificate)) cycle_old cycle_new service_old service_new old new = HasRisen old new
-CountsThree (Err (Write written)) cycle_old cycle_new service_old service_new old new = ⊥
-CountsThree (Err (Counter fault)) cycle_old cycle_new service_old service_new old new = ⊥
-CountsThree result cycle_old cycle_new service_old service_new old new = ⊤
-
--- and those of all five
-abbrev pub CountsRefute : {T : Type 0} → Result T ToolFault → ℕ → ℕ → ℕ → ℕ → ℕ → ℕ → ℕ → ℕ → ℕ → ℕ → Type 0
-CountsRefute (Err (Cycle cycle.Read)) cycle_old cycle_new service_old service_new third_old third_new file_old file_new old new =
-    HasRisen cycle_old cycle_new
-CountsRefute (Err (Read text.Service)) cycle_old cycle_new service_old service_new third_old third_new file_old file_new old new =
-    HasRisen service_old service_new
-CountsRefute (Err (Read text.Certificate)) cycle_old cycle_new service_old service_new third_old third_new file_old file_new old new =
-    HasRisen third_old third_new
-CountsRefute (Err (Counter fault)) cycle_old cycle_new service_old service_new third_old third_new file_old file_new old new = ⊥
-CountsRefute result cycle_old cycle_new service_old service_new third_old third_new file_old file_new old new =
-    CountsBoth result file_old file_new old new

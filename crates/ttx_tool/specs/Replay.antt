@@ -5,19 +5,18 @@
 --   IsCounterText, IsNoCounter, ReadsCounter        the counter-run that a text is, why it is none, what is answered for it
 --   IsNoReplay, ReplaysText what is answered for the three texts
 --   Replays                 what was written at each answer
---   CountsCounter, CountsReplayInputs, CountsReplay        faults of devices are answered only where they were counted
 use Rattle.std.specs.Prelude.{◌≡◌, ◌⊎◌, ℕ, ◌<◌, ◌≤◌, List, [], ◌∷◌, ◌++◌, length, take, codes, string_bytes, ⊤, Option, Result, Ok, Err}
 use Rattle.std.specs.Io.KnownBytes.{Appends, Keeps}
 use Rattle.ttx_cycle.specs.Files.{IsPacketFile}
 use Rattle.ttx_files.specs.Texts.{IsServiceText}
+use Rattle.ttx_files.specs.declared.faults.FilesFault.TheVariants.{Write, NoMemory}
+use Rattle.ttx_files.specs.declared.told.Told.{Told}
 use Rattle.ttx_cycle.specs.Bounded.{most_bytes}
 use Rattle.ttx_counter.specs.CounterReading.{read_counter_text}
 use Rattle.ttx_counter.specs.Counters.{CounterRun, counter_run_of, IsCounterRun}
 use Rattle.ttx_counter.specs.Replaying.{IsReplayed}
 use Rattle.ttx_counter.specs.declared.counter.Counter.{Counter as CounterValue}
 use Rattle.ttx_counter.specs.declared.counter_faults.CounterFault.TheVariants as fault
-use Rattle.ttx_cycle.specs.Counts.{HasRisen}
-use Rattle.ttx_cycle.specs.declared.faults.CycleFault.TheVariants as cycle
 use Rattle.ttx_page.specs.Memories.{Memory, memory_of_page}
 use Rattle.ttx_page.specs.Pages.{Page}
 use Rattle.ttx_render.specs.View.{view_of}
@@ -25,11 +24,10 @@ use Rattle.ttx_source.specs.Services.{ServiceFields, pages_of}
 use Rattle.ttx_tool.specs.Find.{IsNoFinding}
 use Rattle.ttx_tool.specs.Refute.{counter_line}
 use Rattle.ttx_tool.specs.UnlikeViews.{unlike_lines}
-use Rattle.ttx_tool.specs.declared.commands.writing.Told.{Told}
 use Rattle.ttx_tool.specs.declared.faults.CounterFileFault.{CounterFileFault}
 use Rattle.ttx_tool.specs.declared.faults.CounterFileFault.TheVariants as counter
 use Rattle.ttx_tool.specs.declared.faults.ToolFault.{ToolFault}
-use Rattle.ttx_tool.specs.declared.faults.ToolFault.TheVariants.{Cycle, Read, Write, NoMemory, Counter}
+use Rattle.ttx_tool.specs.declared.faults.ToolFault.TheVariants.{Files, Counter}
 
 -- the line of the counter-run, and what its receiver shows otherwise than the page
 abbrev pub replay_text : Page → CounterRun → Memory → List ℕ
@@ -73,7 +71,7 @@ IsNoCounter bytes (counter.Text f) = (length bytes ≤ most_bytes) × ((f ≡ fa
 abbrev pub ReadsCounter : List ℕ → Result CounterValue ToolFault → Type 0
 ReadsCounter bytes (Ok c) = IsCounterText bytes (counter_run_of c)
 ReadsCounter bytes (Err (Counter f)) = IsNoCounter bytes f
-ReadsCounter bytes (Err NoMemory) = ⊤
+ReadsCounter bytes (Err (Files NoMemory)) = ⊤
 ReadsCounter bytes (Err _) = ⊥
 
 -- why nothing is replayed: the counter-run isn't read, or an input before it
@@ -81,37 +79,13 @@ abbrev pub IsNoReplay : List ℕ → List ℕ → List ℕ → ToolFault → Typ
 IsNoReplay a b c (Counter f) = (slots : List (List ℕ)) × (service : ServiceFields) × IsPacketFile a slots × IsServiceText b service × IsNoCounter c f
 IsNoReplay a b c fault = IsNoFinding a b fault
 
-abbrev pub ReplaysText : List ℕ → List ℕ → List ℕ → Result Told ToolFault → Type 0
-ReplaysText a b c (Ok told) = IsReplaying a b c (string_bytes told.text) told.status
+abbrev pub ReplaysText : List ℕ → List ℕ → List ℕ → Result (Told ℕ) ToolFault → Type 0
+ReplaysText a b c (Ok told) = IsReplaying a b c (string_bytes told.line) told.verdict
 ReplaysText a b c (Err fault) = IsNoReplay a b c fault
 
 -- Ok: the lines went out. A write fault: their first `written` bytes. Else nothing, and why nothing is replayed.
 abbrev pub Replays : List ℕ → List ℕ → List ℕ → Option (List ℕ) → Option (List ℕ) → Result ℕ ToolFault → Type 0
 Replays a b c old new (Ok status) = (text : List ℕ) × IsReplaying a b c text status × Appends old new text
-Replays a b c old new (Err (Write written)) =
+Replays a b c old new (Err (Files (Write written))) =
     (text : List ℕ) × (status : ℕ) × IsReplaying a b c text status × (written < length text) × Appends old new (take written text)
 Replays a b c old new (Err fault) = IsNoReplay a b c fault × Keeps old new
-
--- the faults counted by the reader of the counter-run, before and after
-abbrev pub CountsCounter : {T : Type 0} → Result T ToolFault → ℕ → ℕ → Type 0
-CountsCounter (Err (Counter counter.Read)) old new = HasRisen old new
-CountsCounter (Err (Cycle fault)) old new = ⊥
-CountsCounter (Err (Read which)) old new = ⊥
-CountsCounter (Err (Write written)) old new = ⊥
-CountsCounter result old new = ⊤
-
--- those of the readers of the cycle, the service and the counter-run
-abbrev pub CountsReplayInputs : {T : Type 0} → Result T ToolFault → ℕ → ℕ → ℕ → ℕ → ℕ → ℕ → Type 0
-CountsReplayInputs (Err (Cycle cycle.Read)) cycle_old cycle_new service_old service_new old new = HasRisen cycle_old cycle_new
-CountsReplayInputs (Err (Read which)) cycle_old cycle_new service_old service_new old new = HasRisen service_old service_new
-CountsReplayInputs (Err (Counter counter.Read)) cycle_old cycle_new service_old service_new old new = HasRisen old new
-CountsReplayInputs (Err (Write written)) cycle_old cycle_new service_old service_new old new = ⊥
-CountsReplayInputs result cycle_old cycle_new service_old service_new old new = ⊤
-
--- and of the writer
-abbrev pub CountsReplay : {T : Type 0} → Result T ToolFault → ℕ → ℕ → ℕ → ℕ → ℕ → ℕ → ℕ → ℕ → Type 0
-CountsReplay (Err (Cycle cycle.Read)) cycle_old cycle_new service_old service_new third_old third_new old new = HasRisen cycle_old cycle_new
-CountsReplay (Err (Read which)) cycle_old cycle_new service_old service_new third_old third_new old new = HasRisen service_old service_new
-CountsReplay (Err (Counter counter.Read)) cycle_old cycle_new service_old service_new third_old third_new old new = HasRisen third_old third_new
-CountsReplay (Err (Write written)) cycle_old cycle_new service_old service_new third_old third_new old new = HasRisen old new
-CountsReplay result cycle_old cycle_new service_old service_new third_old third_new old new = ⊤

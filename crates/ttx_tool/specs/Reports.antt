@@ -3,13 +3,12 @@
 --   source_text, refused_service, service_text, certificate_refusal        what is said of a service definition, and of a certificate
 --   extract_text, extract_status            what is said of a cycle of which no service text is made, and the status
 --   run_text, run_status    what is said of the text of a counter-run, and the status
---   fault_text, fault_line, status_of        the line of a fault, and its status
+--   files_text, fault_text, fault_line      what a fault is called, of a file and of a command, and its line
+--   files_status, status_of the status after it
 --   Reports, ReportsWords    what a report wrote at each answer
---   CountsReport             a write fault is answered only where it was counted
 use Rattle.std.specs.Prelude.{◌≡◌, ℕ, ◌<◌, List, [], ◌∷◌, ◌++◌, length, take, Option, Result, Ok, Err, codes}
 use Rattle.std.specs.Fmt.{decimal}
 use Rattle.std.specs.Io.KnownBytes.{Appends, Keeps}
-use Rattle.ttx_cycle.specs.Counts.{HasRisen}
 use Rattle.ttx_cycle.specs.declared.faults.CycleFault.TheVariants as cycle
 use Rattle.ttx_counter.specs.declared.counter_faults.CounterFault.TheVariants as counter
 use Rattle.ttx_extract.specs.Refusals.{refusal_text}
@@ -21,12 +20,13 @@ use Rattle.ttx_source.specs.Values.{Fault, not_toml, missing, wrong_kind, wrong_
 use Rattle.ttx_source.specs.Values.{wrong_often, out_of_range, no_memory}
 use Rattle.ttx_certificate.specs.declared.certificate_faults.CertFault.{CertFault}
 use Rattle.ttx_certificate.specs.declared.certificate_faults.CertFault.TheVariants as cert
+use Rattle.ttx_files.specs.declared.faults.FilesFault.{FilesFault}
+use Rattle.ttx_files.specs.declared.faults.FilesFault.TheVariants.{Cycle, Service, Certificate, Read, TooLong, Write, NoMemory}
 use Rattle.ttx_files.specs.declared.faults.TextFile.TheVariants as text
 use Rattle.ttx_arguments.specs.declared.orders.WordsFault.{WordsFault}
 use Rattle.ttx_arguments.specs.declared.orders.WordsFault.TheVariants as words
 use Rattle.ttx_tool.specs.declared.faults.ToolFault.{ToolFault}
-use Rattle.ttx_tool.specs.declared.faults.ToolFault.TheVariants.{Cycle, Service, Certificate, Read, TooLong, Write, NoMemory, Plan, Class, Same}
-use Rattle.ttx_tool.specs.declared.faults.ToolFault.TheVariants.{Counter}
+use Rattle.ttx_tool.specs.declared.faults.ToolFault.TheVariants.{Files, Plan, Class, Same, Counter}
 use Rattle.ttx_tool.specs.declared.faults.CounterFileFault.{CounterFileFault}
 use Rattle.ttx_tool.specs.declared.faults.CounterFileFault.TheVariants as run
 
@@ -76,20 +76,23 @@ run_text (run.Text counter.Title) = codes "refused: counter 1 title"
 run_text (run.Text (counter.Line line)) = codes "refused: counter 2 line line " ++ decimal line
 run_text (run.Text counter.NoMemory) = codes "fault: memory"
 
--- what a refusal or a fault is called
+-- what a refusal or a fault of a file is called
+abbrev pub files_text : FilesFault → List ℕ
+files_text (Cycle cycle.Read) = codes "fault: read"
+files_text (Cycle (cycle.Truncated rest)) = codes "refused: cycle 2 truncated " ++ decimal rest
+files_text (Cycle cycle.Empty) = codes "refused: cycle 3 empty"
+files_text (Cycle cycle.TooLong) = codes "refused: cycle 4 too-long"
+files_text (Cycle cycle.NoMemory) = codes "fault: memory"
+files_text (Service error) = service_text (fault_of error.fault) error.page
+files_text (Certificate fault) = certificate_refusal fault
+files_text (Read which) = codes "fault: read"
+files_text (TooLong text.Service) = codes "refused: service too-long"
+files_text (TooLong text.Certificate) = codes "refused: certificate too-long"
+files_text (Write written) = codes "fault: write"
+files_text NoMemory = codes "fault: memory"
+
 abbrev pub fault_text : ToolFault → List ℕ
-fault_text (Cycle cycle.Read) = codes "fault: read"
-fault_text (Cycle (cycle.Truncated rest)) = codes "refused: cycle 2 truncated " ++ decimal rest
-fault_text (Cycle cycle.Empty) = codes "refused: cycle 3 empty"
-fault_text (Cycle cycle.TooLong) = codes "refused: cycle 4 too-long"
-fault_text (Cycle cycle.NoMemory) = codes "fault: memory"
-fault_text (Service error) = service_text (fault_of error.fault) error.page
-fault_text (Certificate fault) = certificate_refusal fault
-fault_text (Read which) = codes "fault: read"
-fault_text (TooLong text.Service) = codes "refused: service too-long"
-fault_text (TooLong text.Certificate) = codes "refused: certificate too-long"
-fault_text (Write written) = codes "fault: write"
-fault_text NoMemory = codes "fault: memory"
+fault_text (Files fault) = files_text fault
 fault_text (Plan plan.NoPages) = codes "refused: plan 1 no-pages"
 fault_text (Plan plan.TooLong) = codes "refused: plan 2 too-long"
 fault_text (Plan plan.NoMemory) = codes "fault: memory"
@@ -117,22 +120,25 @@ run_status (run.Text (counter.Line line)) = 2
 run_status (run.Text counter.NoMemory) = 3
 
 -- 2 for a refusal, 3 for a fault
+abbrev pub files_status : FilesFault → ℕ
+files_status (Cycle cycle.Read) = 3
+files_status (Cycle (cycle.Truncated rest)) = 2
+files_status (Cycle cycle.Empty) = 2
+files_status (Cycle cycle.TooLong) = 2
+files_status (Cycle cycle.NoMemory) = 3
+files_status (Service error) = service_status (fault_of error.fault)
+files_status (Certificate cert.Title) = 2
+files_status (Certificate (cert.Line line)) = 2
+files_status (Certificate (cert.Order line)) = 2
+files_status (Certificate (cert.Range line)) = 2
+files_status (Certificate cert.NoMemory) = 3
+files_status (Read which) = 3
+files_status (TooLong which) = 2
+files_status (Write written) = 3
+files_status NoMemory = 3
+
 abbrev pub status_of : ToolFault → ℕ
-status_of (Cycle cycle.Read) = 3
-status_of (Cycle (cycle.Truncated rest)) = 2
-status_of (Cycle cycle.Empty) = 2
-status_of (Cycle cycle.TooLong) = 2
-status_of (Cycle cycle.NoMemory) = 3
-status_of (Service error) = service_status (fault_of error.fault)
-status_of (Certificate cert.Title) = 2
-status_of (Certificate (cert.Line line)) = 2
-status_of (Certificate (cert.Order line)) = 2
-status_of (Certificate (cert.Range line)) = 2
-status_of (Certificate cert.NoMemory) = 3
-status_of (Read which) = 3
-status_of (TooLong which) = 2
-status_of (Write written) = 3
-status_of NoMemory = 3
+status_of (Files fault) = files_status fault
 status_of (Plan plan.NoPages) = 2
 status_of (Plan plan.TooLong) = 2
 status_of (Plan plan.NoMemory) = 3
@@ -143,8 +149,8 @@ status_of (Counter fault) = run_status fault
 -- the line went out, or its first `written` bytes, or nothing
 abbrev pub Reports : List ℕ → ℕ → Option (List ℕ) → Option (List ℕ) → Result ℕ ToolFault → Type 0
 Reports line status old new (Ok s) = (s ≡ status) × Appends old new line
-Reports line status old new (Err (Write written)) = (written < length line) × Appends old new (take written line)
-Reports line status old new (Err NoMemory) = Keeps old new
+Reports line status old new (Err (Files (Write written))) = (written < length line) × Appends old new (take written line)
+Reports line status old new (Err (Files NoMemory)) = Keeps old new
 Reports line status old new (Err _) = ⊥
 
 -- Of what `clap` refuses its own text is written, whatever it is.
@@ -156,10 +162,4 @@ ReportsWords words.Seconds old new result = Reports (codes "refused: seconds" ++
 ReportsWords words.Deadlines old new result = Reports (codes "refused: deadlines" ++ 10 ∷ []) 2 old new result
 ReportsWords words.Within old new result = Reports (codes "refused: within" ++ 10 ∷ []) 2 old new result
 ReportsWords words.Twice old new result = Reports (codes "refused: twice" ++ 10 ∷ []) 2 old new result
-ReportsWords words.NoMemory old new result = Reports (fault_line NoMemory) 3 old new result
-
--- the faults counted by the writer, before and after
-abbrev pub CountsReport : {T : Type 0} → Result T ToolFault → ℕ → ℕ → Type 0
-CountsReport (Ok _) old new = new ≡ old
-CountsReport (Err (Write written)) old new = HasRisen old new
-CountsReport (Err _) old new = new ≡ old
+ReportsWords words.NoMemory old new result = Reports (fault_line (Files NoMemory)) 3 old new result

@@ -11,7 +11,6 @@ use Rattle.std.specs.Io.KnownBytes.{Appends, Keeps}
 use Rattle.std.specs.List.{list_any}
 use Rattle.ttx_cycle.specs.Files.{IsPacketFile}
 use Rattle.ttx_cycle.specs.Reading.{Judged}
-use Rattle.ttx_cycle.specs.declared.faults.CycleFault.{CycleFault}
 use Rattle.ttx_page.specs.Laws.{sent_from}
 use Rattle.ttx_page.specs.Memories.{Memory}
 use Rattle.ttx_page.specs.Packets.{packet_of}
@@ -20,8 +19,10 @@ use Rattle.ttx_page.specs.declared.selection.Selection.{Selection}
 use Rattle.ttx_picture.specs.Forms.{picture_of}
 use Rattle.ttx_render.specs.View.{view_of}
 use Rattle.ttx_tool.specs.Receive.{Tuning, Hears}
+use Rattle.ttx_files.specs.declared.faults.FilesFault.{FilesFault}
+use Rattle.ttx_files.specs.declared.faults.FilesFault.TheVariants.{Cycle, Write, NoMemory}
 use Rattle.ttx_tool.specs.declared.faults.ToolFault.{ToolFault}
-use Rattle.ttx_tool.specs.declared.faults.ToolFault.TheVariants.{Cycle, Write, NoMemory}
+use Rattle.ttx_tool.specs.declared.faults.ToolFault.TheVariants.{Files}
 use Rattle.ttx_arguments.specs.declared.orders.Look.{Look}
 
 -- one of the slots is a header that the selection matches
@@ -52,9 +53,10 @@ pub record IsShownFile (t : Tuning) (holds : List (List ℕ) → Memory) (start 
   pub fresh : new.fresh ≡ stays_fresh t.selection old (sent_from (repeated slots) (pos start) count)
 
 -- the same, or why the file is refused
-abbrev pub HearsFile : {U : Type 0} → Tuning → (List (List ℕ) → Memory) → ℕ → ℕ → List ℕ → Memory → Memory → Result U CycleFault → Type 0
+abbrev pub HearsFile : {U : Type 0} → Tuning → (List (List ℕ) → Memory) → ℕ → ℕ → List ℕ → Memory → Memory → Result U FilesFault → Type 0
 HearsFile t holds start count bytes old new (Ok _) = IsShownFile t holds start count bytes old new
-HearsFile t holds start count bytes old new (Err fault) = Judged bytes (Err fault) × (new ≡ old)
+HearsFile t holds start count bytes old new (Err (Cycle fault)) = Judged bytes (Err fault) × (new ≡ old)
+HearsFile t holds start count bytes old new (Err _) = ⊥
 
 -- Ok: the View of the memory went out, or that no header of the page came. A write fault: the first `written` bytes of that. Else
 -- nothing, and the file is refused as it is judged.
@@ -62,11 +64,11 @@ abbrev pub ShowsAfter : Tuning → (List (List ℕ) → Memory) → ℕ → ℕ 
     Result ℕ ToolFault → Type 0
 ShowsAfter t holds start count look bytes held new before after (Ok status) =
     (status ≡ shown_status new) × IsShownFile t holds start count bytes held new × Appends before after (shown_text look new)
-ShowsAfter t holds start count look bytes held new before after (Err (Write written)) =
+ShowsAfter t holds start count look bytes held new before after (Err (Files (Write written))) =
     IsShownFile t holds start count bytes held new × (written < length (shown_text look new))
     × Appends before after (take written (shown_text look new))
-ShowsAfter t holds start count look bytes held new before after (Err (Cycle fault)) = Judged bytes (Err fault) × (new ≡ held) × Keeps before after
-ShowsAfter t holds start count look bytes held new before after (Err NoMemory) = Keeps before after
+ShowsAfter t holds start count look bytes held new before after (Err (Files (Cycle fault))) = Judged bytes (Err fault) × (new ≡ held) × Keeps before after
+ShowsAfter t holds start count look bytes held new before after (Err (Files NoMemory)) = Keeps before after
 ShowsAfter t holds start count look bytes held new before after (Err _) = ⊥
 
 -- the receiver goes with the call, so its new memory is some memory

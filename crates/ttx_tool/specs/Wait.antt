@@ -6,20 +6,18 @@
 --   IsWaiting               the same of their texts
 --   WaitsText               what is answered for them
 --   Waits                   what was written at each answer
---   CountsWait              faults of devices are answered only where they were counted
-use Rattle.std.specs.Prelude.{◌≡◌, ℕ, ◌<◌, nat_lt, Bool, true, false, if◌then◌else◌, List, length, take, string_bytes, ⊤, Option, Some, None, Result, Ok, Err}
+use Rattle.std.specs.Prelude.{◌≡◌, ℕ, ◌<◌, nat_lt, Bool, true, false, if◌then◌else◌, List, length, take, string_bytes, Option, Some, None, Result, Ok, Err}
 use Rattle.std.specs.Io.KnownBytes.{Appends, Keeps}
 use Rattle.ttx_cycle.specs.Files.{IsPacketFile}
-use Rattle.ttx_cycle.specs.Counts.{HasRisen}
-use Rattle.ttx_cycle.specs.declared.faults.CycleFault.TheVariants as cycle
+use Rattle.ttx_files.specs.declared.faults.FilesFault.TheVariants.{Write}
+use Rattle.ttx_files.specs.declared.told.Told.{Told}
 use Rattle.ttx_page.specs.declared.class.Class.{Class}
 use Rattle.ttx_promise.specs.PromisedReports.{IsPromisedReport}
 use Rattle.ttx_source.specs.Promises.{PromiseFields}
 use Rattle.ttx_source.specs.Services.{ServiceFields, pages_of}
 use Rattle.ttx_tool.specs.Promised.{IsPromisedText, IsNoPromisedInput}
-use Rattle.ttx_tool.specs.declared.commands.writing.Told.{Told}
 use Rattle.ttx_tool.specs.declared.faults.ToolFault.{ToolFault}
-use Rattle.ttx_tool.specs.declared.faults.ToolFault.TheVariants.{Cycle, Read, Write, Counter}
+use Rattle.ttx_tool.specs.declared.faults.ToolFault.TheVariants.{Files}
 use Rattle.ttx_wait.specs.Reports.{IsReportWith}
 use Rattle.ttx_wait.specs.declared.reports.Detail.{Detail}
 use Rattle.ttx_wait.specs.declared.reports.Detail.TheVariants as detail
@@ -61,21 +59,13 @@ pub record IsWaiting (a b : List ℕ) (repeat : ℕ) (class : Class) (detail : D
   pub service_is : IsPromisedText b service promises
   pub told : IsWaitBeside (shows_promises (length promises) detail) slots service promises repeat class detail text status
 
-abbrev pub WaitsText : List ℕ → List ℕ → ℕ → Class → Detail → Result Told ToolFault → Type 0
-WaitsText a b repeat class detail (Ok told) = IsWaiting a b repeat class detail (string_bytes told.text) told.status
+abbrev pub WaitsText : List ℕ → List ℕ → ℕ → Class → Detail → Result (Told ℕ) ToolFault → Type 0
+WaitsText a b repeat class detail (Ok told) = IsWaiting a b repeat class detail (string_bytes told.line) told.verdict
 WaitsText a b repeat class detail (Err fault) = IsNoPromisedInput a b fault
 
 -- Ok: the lines went out. A write fault: their first `written` bytes. Else nothing, and why there is no cycle or no service.
 abbrev pub Waits : List ℕ → List ℕ → ℕ → Class → Detail → Option (List ℕ) → Option (List ℕ) → Result ℕ ToolFault → Type 0
 Waits a b repeat class detail old new (Ok status) = (text : List ℕ) × IsWaiting a b repeat class detail text status × Appends old new text
-Waits a b repeat class detail old new (Err (Write written)) =
+Waits a b repeat class detail old new (Err (Files (Write written))) =
     (text : List ℕ) × (status : ℕ) × IsWaiting a b repeat class detail text status × (written < length text) × Appends old new (take written text)
 Waits a b repeat class detail old new (Err fault) = IsNoPromisedInput a b fault × Keeps old new
-
--- the faults counted by the readers of the cycle and of the service, and by the writer
-abbrev pub CountsWait : {T : Type 0} → Result T ToolFault → ℕ → ℕ → ℕ → ℕ → ℕ → ℕ → Type 0
-CountsWait (Err (Cycle cycle.Read)) cycle_old cycle_new service_old service_new old new = HasRisen cycle_old cycle_new
-CountsWait (Err (Read which)) cycle_old cycle_new service_old service_new old new = HasRisen service_old service_new
-CountsWait (Err (Counter fault)) cycle_old cycle_new service_old service_new old new = ⊥
-CountsWait (Err (Write written)) cycle_old cycle_new service_old service_new old new = HasRisen old new
-CountsWait result cycle_old cycle_new service_old service_new old new = ⊤

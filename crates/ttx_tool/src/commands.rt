@@ -9,7 +9,6 @@ pub mod check;
 pub mod extract;
 pub mod find;
 pub mod find_deadline;
-mod inputs;
 pub mod inspect;
 pub mod pages;
 pub mod plan;
@@ -26,6 +25,5 @@ pub mod splice;
 pub mod splice_sent;
 pub mod version;
 pub mod wait;
-mod writing;
 
 pub use reports::{report, report_extraction, report_words};

@@ -1,8 +1,8 @@
 //! A receiver over the slots of a cycle that is sent again and again.
 
-ghost use Rattle.std.specs.Prelude.{◌≡◌, ◌<◌, IfSome, fold, length, pos};
+ghost use Rattle.std.specs.Prelude.{◌≡◌, ◌<◌, ◌∷◌, [], IfSome, IfOk, IfErr, fold, length, pos};
 ghost use Rattle.ttx_cycle.specs.Counters.{inner_of, faults_of};
-ghost use Rattle.ttx_cycle.specs.Reading.{CountsRead};
+ghost use Rattle.ttx_files.specs.Devices.{AtCycle, input, failed_at, IsFirstFailure, IsOf, IsRight};
 ghost use Rattle.ttx_page.specs.Laws.{sent_from};
 ghost use Rattle.ttx_page.specs.Streams.{repeated};
 ghost use Rattle.ttx_tool.specs.Receive.{tuned_as, Hears};
@@ -10,7 +10,8 @@ ghost use Rattle.ttx_tool.specs.Show.{stays_fresh, HearsFile};
 
 use std::alloc::Global;
 use std::io::Read;
-use ttx_cycle::{Counted, CycleFault, read_cycle};
+use ttx_cycle::Counted;
+use ttx_files::{FilesFault, read_packets};
 use ttx_receiver::Receiver;
 
 // Steps a receiver over `count` slots from slot `start` on, which counts round the cycle.
@@ -50,13 +51,16 @@ pub(crate) fn hear_file<R: Read, X: Receiver>(
     receiver: &mut X,
     start: u16,
     count: u32,
-) -> Result<(), CycleFault>
+) -> Result<(), FilesFault>
     ensures bytes { IfSome (R.remaining (inner_of reader.old))
         (λ bytes. HearsFile (tuned_as (X.kind receiver.old) (X.field receiver.old) (X.tuned receiver.old))
         (λ sent. X.held (fold X.next receiver.old sent)) start count bytes (X.held receiver.old) (X.held receiver.new) result) }
-    ensures faults { CountsRead result (faults_of reader.old) (faults_of reader.new) }
+    ensures right { IfOk result (λ _. IsRight AtCycle (R.remaining (inner_of reader.old))) }
+    ensures own { IfErr result (IsOf (AtCycle ∷ [])) }
+    ensures faults { IsFirstFailure (input AtCycle (R.remaining (inner_of reader.old)) (faults_of reader.old) (faults_of reader.new) ∷ [])
+        (failed_at result) }
 {
-    match read_cycle(alloc, reader) {
+    match read_packets(alloc, reader) {
         Ok(cycle) => {
             hear(receiver, cycle.slots(), usize::from(start), count);
             Ok(())

@@ -51,9 +51,7 @@ fn certify_claim(
     claim: Claim,
     order: &CertifyOrder<'_>,
 ) -> Result<u8, ToolFault> {
-    let Ok(mut readers) = claim.readers(rt) else {
-        return Err(ToolFault::NoMemory);
-    };
+    let mut readers = claim.readers(rt)?;
     match order.within {
         None => certify_readers(rt, &mut readers, order.late),
         Some(fields) => certify_readers_within(rt, &mut readers, fields.count()),
@@ -78,12 +76,8 @@ fn certify_readers_twice(
 }
 
 fn certify_twice(rt: &HostRuntime, first: Input, claim: Claim) -> Result<u8, ToolFault> {
-    let Ok(mut first) = buffered(rt, first) else {
-        return Err(ToolFault::NoMemory);
-    };
-    let Ok(mut readers) = claim.readers(rt) else {
-        return Err(ToolFault::NoMemory);
-    };
+    let mut first = buffered(rt, first)?;
+    let mut readers = claim.readers(rt)?;
     certify_readers_twice(rt, &mut first, &mut readers)
 }
 
@@ -148,9 +142,7 @@ fn find_to(
     out: File,
 ) -> Result<u8, ToolFault> {
     let mut file = Counted::new(out);
-    let Ok(mut readers) = inputs.readers(rt) else {
-        return Err(ToolFault::NoMemory);
-    };
+    let mut readers = inputs.readers(rt)?;
     match order.deadline {
         None => find_in(rt, &mut readers, order, &mut file),
         Some(fields) => find_in_with(rt, &mut readers, order, fields, &mut file),
@@ -190,9 +182,7 @@ fn wait_in(
 }
 
 fn wait_for(rt: &HostRuntime, inputs: SentService, order: &WaitOrder<'_>) -> Result<u8, ToolFault> {
-    let Ok(mut readers) = inputs.readers(rt) else {
-        return Err(ToolFault::NoMemory);
-    };
+    let mut readers = inputs.readers(rt)?;
     wait_in(rt, &mut readers, order)
 }
 

@@ -36,9 +36,7 @@ fn refute_claim<O: Write + Drop>(
     out: O,
 ) -> Result<u8, ToolFault> {
     let mut file = Counted::new(out);
-    let Ok(mut readers) = claim.readers(rt) else {
-        return Err(ToolFault::NoMemory);
-    };
+    let mut readers = claim.readers(rt)?;
     refute_readers(rt, &mut readers, save, &mut file)
 }
 
@@ -68,9 +66,7 @@ fn replay_readers(rt: &HostRuntime, readers: &mut ClaimReaders) -> Result<u8, To
 }
 
 fn replay_claim(rt: &HostRuntime, claim: Claim) -> Result<u8, ToolFault> {
-    let Ok(mut readers) = claim.readers(rt) else {
-        return Err(ToolFault::NoMemory);
-    };
+    let mut readers = claim.readers(rt)?;
     replay_readers(rt, &mut readers)
 }
 

@@ -11,9 +11,7 @@ use ttx_cycle::Counted;
 use ttx_tool::{ExtractionFault, ToolFault, commands};
 
 fn inspect_input(rt: &HostRuntime, input: Input) -> Result<u8, ToolFault> {
-    let Ok(mut reader) = buffered(rt, input) else {
-        return Err(ToolFault::NoMemory);
-    };
+    let mut reader = buffered(rt, input)?;
     let mut writer = Counted::new(io::writer(rt));
     commands::inspect::run(rt.alloc(), &mut reader, &mut writer).map(|()| 0)
 }
@@ -24,9 +22,7 @@ pub fn inspect(rt: &HostRuntime, file: &str) -> Outcome {
 }
 
 fn pages_of(rt: &HostRuntime, input: Input) -> Result<u8, ToolFault> {
-    let Ok(mut reader) = buffered(rt, input) else {
-        return Err(ToolFault::NoMemory);
-    };
+    let mut reader = buffered(rt, input)?;
     let mut writer = Counted::new(io::writer(rt));
     commands::pages::run(rt.alloc(), &mut reader, &mut writer)
 }
@@ -37,9 +33,7 @@ pub fn pages(rt: &HostRuntime, cycle: &str) -> Outcome {
 }
 
 fn book_of(rt: &HostRuntime, input: Input, out: File) -> Result<u8, ToolFault> {
-    let Ok(mut reader) = buffered(rt, input) else {
-        return Err(ToolFault::NoMemory);
-    };
+    let mut reader = buffered(rt, input)?;
     let mut file = Counted::new(out);
     commands::book::run(rt.alloc(), &mut reader, &mut file)
 }
@@ -54,9 +48,7 @@ pub fn book(rt: &HostRuntime, cycle: &str, out: &str) -> Outcome {
 }
 
 fn extract_from(rt: &HostRuntime, input: Input, lines: u8, out: File) -> Result<u8, ToolFault> {
-    let Ok(mut reader) = buffered(rt, input) else {
-        return Err(ToolFault::NoMemory);
-    };
+    let mut reader = buffered(rt, input)?;
     let mut file = Counted::new(out);
     let mut writer = Counted::new(io::writer(rt));
     match commands::extract::run(rt.alloc(), &mut reader, lines, &mut file, &mut writer) {
@@ -79,9 +71,7 @@ pub fn extract(rt: &HostRuntime, cycle: &str, out: &str, lines: u8) -> Outcome {
 }
 
 fn send_input(rt: &HostRuntime, input: Input, sending: &Sending) -> Result<u8, ToolFault> {
-    let Ok(mut reader) = buffered(rt, input) else {
-        return Err(ToolFault::NoMemory);
-    };
+    let mut reader = buffered(rt, input)?;
     let mut writer = Counted::new(io::writer(rt));
     commands::send::run(rt.alloc(), &mut reader, sending, &mut writer).map(|()| 0)
 }

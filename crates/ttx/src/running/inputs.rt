@@ -1,16 +1,17 @@
 //! The opened inputs of a command.
 
 use crate::devices::{Input, open_input};
-use std::alloc::AllocError;
 use std::io;
 use std::io::BufReader;
 use ttx_cycle::Counted;
+use ttx_files::FilesFault;
+use ttx_tool::ToolFault;
 
 /// A buffered reader of an input.
-pub fn buffered(rt: &HostRuntime, input: Input) -> Result<Counted<BufReader<Input>>, AllocError> {
+pub fn buffered(rt: &HostRuntime, input: Input) -> Result<Counted<BufReader<Input>>, ToolFault> {
     match BufReader::new(rt.alloc(), input) {
         Ok(reader) => Ok(Counted::new(reader)),
-        Err(_) => Err(AllocError),
+        Err(_) => Err(ToolFault::Files(FilesFault::NoMemory)),
     }
 }
 
@@ -37,7 +38,7 @@ impl SentService {
     }
 
     /// Buffered readers of both.
-    pub fn readers(self, rt: &HostRuntime) -> Result<SentServiceReaders, AllocError> {
+    pub fn readers(self, rt: &HostRuntime) -> Result<SentServiceReaders, ToolFault> {
         let cycle = buffered(rt, self.cycle)?;
         let service = buffered(rt, self.service)?;
         Ok(SentServiceReaders { cycle, service })
@@ -74,7 +75,7 @@ impl Claim {
     }
 
     /// Buffered readers of the three.
-    pub fn readers(self, rt: &HostRuntime) -> Result<ClaimReaders, AllocError> {
+    pub fn readers(self, rt: &HostRuntime) -> Result<ClaimReaders, ToolFault> {
         let cycle = buffered(rt, self.cycle)?;
         let service = buffered(rt, self.service)?;
         let text = buffered(rt, self.text)?;

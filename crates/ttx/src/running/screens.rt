@@ -17,9 +17,7 @@ fn receive_input(
     tuning: &Tuning,
     look: Option<&Look<'_>>,
 ) -> Result<u8, ToolFault> {
-    let Ok(mut reader) = buffered(rt, input) else {
-        return Err(ToolFault::NoMemory);
-    };
+    let mut reader = buffered(rt, input)?;
     let mut writer = Counted::new(io::writer(rt));
     match look {
         Some(look) => commands::show::run(rt.alloc(), &mut reader, tuning, look, &mut writer),
@@ -38,9 +36,7 @@ fn preview_input(
     selection: &Selection,
     look: &Look<'_>,
 ) -> Result<u8, ToolFault> {
-    let Ok(mut reader) = buffered(rt, input) else {
-        return Err(ToolFault::NoMemory);
-    };
+    let mut reader = buffered(rt, input)?;
     let mut writer = Counted::new(io::writer(rt));
     commands::preview::run(rt.alloc(), &mut reader, selection, look, &mut writer)
 }

@@ -14,9 +14,7 @@ use ttx_promise::Viewers;
 use ttx_tool::{ToolFault, commands};
 
 fn check_input(rt: &HostRuntime, input: Input) -> Result<u8, ToolFault> {
-    let Ok(mut reader) = buffered(rt, input) else {
-        return Err(ToolFault::NoMemory);
-    };
+    let mut reader = buffered(rt, input)?;
     let mut writer = Counted::new(io::writer(rt));
     commands::check::run(rt.alloc(), &mut reader, &mut writer)
 }
@@ -58,9 +56,7 @@ fn plan_input(
     out: File,
 ) -> Result<u8, ToolFault> {
     let mut file = Counted::new(out);
-    let Ok(mut reader) = buffered(rt, input) else {
-        return Err(ToolFault::NoMemory);
-    };
+    let mut reader = buffered(rt, input)?;
     let receivers = Receivers {
         class: order.class,
         late: order.late,

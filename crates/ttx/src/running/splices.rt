@@ -4,7 +4,6 @@ use super::Outcome;
 use super::inputs::buffered;
 use crate::devices::{Input, open_input};
 use crate::reports::status_of;
-use std::alloc::AllocError;
 use std::io;
 use std::io::BufReader;
 use ttx_arguments::SpliceOrder;
@@ -34,13 +33,13 @@ struct SpliceReaders {
     certificates: TwoReaders,
 }
 
-fn buffered_two(rt: &HostRuntime, inputs: (Input, Input)) -> Result<TwoReaders, AllocError> {
+fn buffered_two(rt: &HostRuntime, inputs: (Input, Input)) -> Result<TwoReaders, ToolFault> {
     let old = buffered(rt, inputs.0)?;
     let new = buffered(rt, inputs.1)?;
     Ok(TwoReaders { old, new })
 }
 
-fn buffered_all(rt: &HostRuntime, inputs: SpliceInputs) -> Result<SpliceReaders, AllocError> {
+fn buffered_all(rt: &HostRuntime, inputs: SpliceInputs) -> Result<SpliceReaders, ToolFault> {
     let cycles = buffered_two(rt, inputs.cycles)?;
     let services = buffered_two(rt, inputs.services)?;
     let certificates = buffered_two(rt, inputs.certificates)?;
@@ -89,9 +88,7 @@ fn splice_inputs(
     inputs: SpliceInputs,
     sent: Option<u32>,
 ) -> Result<u8, ToolFault> {
-    let Ok(mut readers) = buffered_all(rt, inputs) else {
-        return Err(ToolFault::NoMemory);
-    };
+    let mut readers = buffered_all(rt, inputs)?;
     match sent {
         None => splice_readers(rt, &mut readers),
         Some(periods) => splice_readers_sent(rt, &mut readers, periods),

@@ -1,14 +1,14 @@
 //! `book`: the pages of a packet file as one HTML file.
 
-ghost use Rattle.std.specs.Prelude.{IfSome};
+ghost use Rattle.std.specs.Prelude.{◌∷◌, [], IfSome};
 ghost use Rattle.ttx_book.specs.Books.{book_text};
 ghost use Rattle.ttx_cycle.specs.Counters.{inner_of, faults_of};
 ghost use Rattle.ttx_files.specs.Answers.{IsUntouched};
-ghost use Rattle.ttx_pages.specs.Paging.{WritesTextOf, CountsPages};
-ghost use Rattle.ttx_tool.specs.Answers.{pages_answer, IsAnswered};
-ghost use Rattle.ttx_tool.specs.FilesFaults.{is_tool_write};
+ghost use Rattle.ttx_files.specs.Devices.{AtCycle, input, output};
+ghost use Rattle.ttx_pages.specs.Paging.{WritesTextOf};
+ghost use Rattle.ttx_tool.specs.Answers.{pages_status, IsAnswered};
+ghost use Rattle.ttx_tool.specs.Devices.{is_tool_write, Fails};
 
-use super::pages::pages_answer;
 use crate::faults::ToolFault;
 use std::alloc::Global;
 use std::io::{Read, Write};
@@ -25,11 +25,14 @@ pub fn run<R: Read, O: Write>(
     reader: &mut Counted<R>,
     file: &mut Counted<O>,
 ) -> Result<u8, ToolFault>
-    ensures bytes { IsAnswered pages_answer (λ answer. IfSome (R.remaining (inner_of reader.old))
+    ensures bytes { IsAnswered pages_status (λ answer. IfSome (R.remaining (inner_of reader.old))
         (λ bytes. WritesTextOf book_text bytes (O.contents (inner_of file.old)) (O.contents (inner_of file.new)) answer)) result }
-    ensures faults { IsAnswered pages_answer (λ answer. CountsPages answer (faults_of reader.old) (faults_of reader.new)
-        (faults_of file.old) (faults_of file.new)) result }
+    ensures faults { Fails (input AtCycle (R.remaining (inner_of reader.old)) (faults_of reader.old) (faults_of reader.new)
+        ∷ output (faults_of file.old) (faults_of file.new) ∷ []) result }
     ensures untouched { IsUntouched is_tool_write result file.old file.new }
 {
-    pages_answer(book(alloc, reader, file))
+    match book(alloc, reader, file) {
+        Ok(()) => Ok(0),
+        Err(fault) => Err(ToolFault::Files(fault)),
+    }
 }

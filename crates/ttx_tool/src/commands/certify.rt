@@ -4,10 +4,10 @@ ghost use Rattle.std.specs.Prelude.{◌≡◌, ◌∷◌, [], true, false, IfSom
 ghost use Rattle.ttx_cycle.specs.Counters.{inner_of, faults_of};
 ghost use Rattle.ttx_files.specs.Answers.{IsUntouched};
 ghost use Rattle.ttx_certify.specs.CertifyingPasses.{CertifiesPasses};
-ghost use Rattle.ttx_files.specs.Devices.{AtCycle, AtService, AtCertificate, input, output, failed_at, IsFirstFailure};
-ghost use Rattle.ttx_tool.specs.Answers.{verdict_status, late_status, certify_answer, IsAnswered};
-ghost use Rattle.ttx_tool.specs.Certify.{CertifiesFor, CountsFor};
-ghost use Rattle.ttx_tool.specs.FilesFaults.{is_tool_write};
+ghost use Rattle.ttx_files.specs.Devices.{AtCycle, AtService, AtCertificate, input, output, IsFirstFailure};
+ghost use Rattle.ttx_tool.specs.Answers.{verdict_status, late_status, IsAnswered};
+ghost use Rattle.ttx_tool.specs.Certify.{CertifiesFor};
+ghost use Rattle.ttx_tool.specs.Devices.{is_tool_write, failed_at};
 
 use crate::faults::ToolFault;
 use std::alloc::Global;
@@ -44,15 +44,15 @@ fn certify<A: Read, B: Read, C: Read, W: Write>(
 ) -> Result<u8, ToolFault>
     ensures bytes { CertifiesFor false (A.remaining (inner_of cycle.old)) (B.remaining (inner_of service.old))
         (C.remaining (inner_of certificate.old)) (W.contents (inner_of writer.old)) (W.contents (inner_of writer.new)) result }
-    ensures faults { CountsFor false (input AtCycle (A.remaining (inner_of cycle.old)) (faults_of cycle.old) (faults_of cycle.new)
+    ensures faults { IsFirstFailure (input AtCycle (A.remaining (inner_of cycle.old)) (faults_of cycle.old) (faults_of cycle.new)
         ∷ input AtService (B.remaining (inner_of service.old)) (faults_of service.old) (faults_of service.new)
         ∷ input AtCertificate (C.remaining (inner_of certificate.old)) (faults_of certificate.old) (faults_of certificate.new)
-        ∷ output (faults_of writer.old) (faults_of writer.new) ∷ []) result }
+        ∷ output (faults_of writer.old) (faults_of writer.new) ∷ []) (failed_at result) }
     ensures untouched { IsUntouched is_tool_write result writer.old writer.new }
 {
     match certify_files(alloc, cycle, service, certificate, writer) {
         Ok(verdict) => Ok(verdict_status(verdict)),
-        Err(fault) => Err(ToolFault::from_files(fault)),
+        Err(fault) => Err(ToolFault::Files(fault)),
     }
 }
 
@@ -66,15 +66,15 @@ fn certify_late<A: Read, B: Read, C: Read, W: Write>(
 ) -> Result<u8, ToolFault>
     ensures bytes { CertifiesFor true (A.remaining (inner_of cycle.old)) (B.remaining (inner_of service.old))
         (C.remaining (inner_of certificate.old)) (W.contents (inner_of writer.old)) (W.contents (inner_of writer.new)) result }
-    ensures faults { CountsFor true (input AtCycle (A.remaining (inner_of cycle.old)) (faults_of cycle.old) (faults_of cycle.new)
+    ensures faults { IsFirstFailure (input AtCycle (A.remaining (inner_of cycle.old)) (faults_of cycle.old) (faults_of cycle.new)
         ∷ input AtService (B.remaining (inner_of service.old)) (faults_of service.old) (faults_of service.new)
         ∷ input AtCertificate (C.remaining (inner_of certificate.old)) (faults_of certificate.old) (faults_of certificate.new)
-        ∷ output (faults_of writer.old) (faults_of writer.new) ∷ []) result }
+        ∷ output (faults_of writer.old) (faults_of writer.new) ∷ []) (failed_at result) }
     ensures untouched { IsUntouched is_tool_write result writer.old writer.new }
 {
     match certify_files_late(alloc, cycle, service, certificate, writer) {
         Ok(verdict) => Ok(late_status(verdict)),
-        Err(fault) => Err(ToolFault::from_files(fault)),
+        Err(fault) => Err(ToolFault::Files(fault)),
     }
 }
 
@@ -94,10 +94,10 @@ pub fn run<A: Read, B: Read, C: Read, W: Write>(
 ) -> Result<u8, ToolFault>
     ensures bytes { CertifiesFor late (A.remaining (inner_of cycle.old)) (B.remaining (inner_of service.old))
         (C.remaining (inner_of certificate.old)) (W.contents (inner_of writer.old)) (W.contents (inner_of writer.new)) result }
-    ensures faults { CountsFor late (input AtCycle (A.remaining (inner_of cycle.old)) (faults_of cycle.old) (faults_of cycle.new)
+    ensures faults { IsFirstFailure (input AtCycle (A.remaining (inner_of cycle.old)) (faults_of cycle.old) (faults_of cycle.new)
         ∷ input AtService (B.remaining (inner_of service.old)) (faults_of service.old) (faults_of service.new)
         ∷ input AtCertificate (C.remaining (inner_of certificate.old)) (faults_of certificate.old) (faults_of certificate.new)
-        ∷ output (faults_of writer.old) (faults_of writer.new) ∷ []) result }
+        ∷ output (faults_of writer.old) (faults_of writer.new) ∷ []) (failed_at result) }
     ensures untouched { IsUntouched is_tool_write result writer.old writer.new }
 {
     if late {
@@ -120,21 +120,21 @@ pub fn run_twice<A: Read, B: Read, C: Read, D: Read, W: Write>(
     certificate: &mut Counted<D>,
     writer: &mut Counted<W>,
 ) -> Result<u8, ToolFault>
-    ensures bytes { IsAnswered certify_answer (λ answer. IfSome (A.remaining (inner_of first.old)) (λ a.
+    ensures bytes { IsAnswered verdict_status (λ answer. IfSome (A.remaining (inner_of first.old)) (λ a.
         IfSome (B.remaining (inner_of second.old)) (λ b.
         IfSome (C.remaining (inner_of service.old)) (λ c.
         IfSome (D.remaining (inner_of certificate.old)) (λ d.
         CertifiesPasses a b c d (W.contents (inner_of writer.old)) (W.contents (inner_of writer.new)) answer))))) result }
-    ensures faults { IsAnswered certify_answer (λ answer. IsFirstFailure
+    ensures faults { IsFirstFailure
         (input AtService (C.remaining (inner_of service.old)) (faults_of service.old) (faults_of service.new)
         ∷ input AtCertificate (D.remaining (inner_of certificate.old)) (faults_of certificate.old) (faults_of certificate.new)
         ∷ input AtCycle (A.remaining (inner_of first.old)) (faults_of first.old) (faults_of first.new)
         ∷ input AtCycle (B.remaining (inner_of second.old)) (faults_of second.old) (faults_of second.new)
-        ∷ output (faults_of writer.old) (faults_of writer.new) ∷ []) (failed_at answer)) result }
+        ∷ output (faults_of writer.old) (faults_of writer.new) ∷ []) (failed_at result) }
     ensures untouched { IsUntouched is_tool_write result writer.old writer.new }
 {
     match certify_passes(alloc, first, second, service, certificate, writer) {
         Ok(verdict) => Ok(verdict_status(verdict)),
-        Err(fault) => Err(ToolFault::from_files(fault)),
+        Err(fault) => Err(ToolFault::Files(fault)),
     }
 }

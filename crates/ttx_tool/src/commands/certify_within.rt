@@ -4,9 +4,9 @@ ghost use Rattle.std.specs.Prelude.{◌≡◌, ◌∷◌, [], Some, IfSome};
 ghost use Rattle.ttx_cycle.specs.Counters.{inner_of, faults_of};
 ghost use Rattle.ttx_deadline.specs.RequiredFiles.{CertifiesRequired};
 ghost use Rattle.ttx_files.specs.Answers.{IsUntouched};
-ghost use Rattle.ttx_files.specs.Devices.{AtCycle, AtService, AtCertificate, input, output, failed_at, IsFirstFailure};
-ghost use Rattle.ttx_tool.specs.Answers.{required_status, required_answer, IsAnswered};
-ghost use Rattle.ttx_tool.specs.FilesFaults.{is_tool_write};
+ghost use Rattle.ttx_files.specs.Devices.{AtCycle, AtService, AtCertificate, input, output, IsFirstFailure};
+ghost use Rattle.ttx_tool.specs.Answers.{required_status, IsAnswered};
+ghost use Rattle.ttx_tool.specs.Devices.{is_tool_write, failed_at};
 
 use crate::faults::ToolFault;
 use std::alloc::Global;
@@ -37,19 +37,19 @@ pub fn run<A: Read, B: Read, C: Read, W: Write>(
     required: u32,
     writer: &mut Counted<W>,
 ) -> Result<u8, ToolFault>
-    ensures bytes { IsAnswered required_answer (λ answer. IfSome (A.remaining (inner_of cycle.old)) (λ a.
+    ensures bytes { IsAnswered required_status (λ answer. IfSome (A.remaining (inner_of cycle.old)) (λ a.
         IfSome (B.remaining (inner_of service.old)) (λ b.
         IfSome (C.remaining (inner_of certificate.old)) (λ c.
         CertifiesRequired a b c (Some required) (W.contents (inner_of writer.old)) (W.contents (inner_of writer.new)) answer)))) result }
-    ensures faults { IsAnswered required_answer (λ answer. IsFirstFailure
+    ensures faults { IsFirstFailure
         (input AtCycle (A.remaining (inner_of cycle.old)) (faults_of cycle.old) (faults_of cycle.new)
         ∷ input AtService (B.remaining (inner_of service.old)) (faults_of service.old) (faults_of service.new)
         ∷ input AtCertificate (C.remaining (inner_of certificate.old)) (faults_of certificate.old) (faults_of certificate.new)
-        ∷ output (faults_of writer.old) (faults_of writer.new) ∷ []) (failed_at answer)) result }
+        ∷ output (faults_of writer.old) (faults_of writer.new) ∷ []) (failed_at result) }
     ensures untouched { IsUntouched is_tool_write result writer.old writer.new }
 {
     match certify_files_required(alloc, cycle, service, certificate, Some(required), writer) {
         Ok(verdict) => Ok(required_status(verdict)),
-        Err(fault) => Err(ToolFault::from_files(fault)),
+        Err(fault) => Err(ToolFault::Files(fault)),
     }
 }

@@ -1,27 +1,18 @@
 //! `check`: what is wrong, or likely wrong, in the text of a service.
 
-ghost use Rattle.std.specs.Prelude.{◌≡◌, IfSome};
-ghost use Rattle.ttx_check.specs.Checking.{Checks, CountsCheck};
+ghost use Rattle.std.specs.Prelude.{◌∷◌, [], None, IfSome, IfErr};
+ghost use Rattle.ttx_check.specs.Checking.{IsCheckFault, Checks};
 ghost use Rattle.ttx_cycle.specs.Counters.{inner_of, faults_of};
 ghost use Rattle.ttx_files.specs.Answers.{IsUntouched};
-ghost use Rattle.ttx_tool.specs.Answers.{check_answer, IsAnswered};
-ghost use Rattle.ttx_tool.specs.FilesFaults.{is_tool_write};
+ghost use Rattle.ttx_files.specs.Devices.{AtService, input, output};
+ghost use Rattle.ttx_tool.specs.Answers.{IsAnswered};
+ghost use Rattle.ttx_tool.specs.Devices.{is_tool_write, Fails};
 
 use crate::faults::ToolFault;
 use std::alloc::Global;
 use std::io::{Read, Write};
-use ttx_check::{CheckFault, check};
+use ttx_check::check;
 use ttx_cycle::Counted;
-
-// The answer of the command.
-fn check_answer(checked: Result<u8, CheckFault>) -> Result<u8, ToolFault>
-    ensures { result ≡ check_answer checked }
-{
-    match checked {
-        Ok(status) => Ok(status),
-        Err(fault) => Err(ToolFault::from_check(fault)),
-    }
-}
 
 /// Reads the text of a service, of at most 4,194,304 bytes, and writes the report on it: the status is 2 where the text is
 /// refused, else 0.
@@ -33,11 +24,15 @@ pub fn run<R: Read, W: Write>(
     reader: &mut Counted<R>,
     writer: &mut Counted<W>,
 ) -> Result<u8, ToolFault>
-    ensures bytes { IsAnswered check_answer (λ answer. IfSome (R.remaining (inner_of reader.old))
+    ensures bytes { IsAnswered (λ status. status) (λ answer. IfSome (R.remaining (inner_of reader.old))
         (λ bytes. Checks bytes (W.contents (inner_of writer.old)) (W.contents (inner_of writer.new)) answer)) result }
-    ensures faults { IsAnswered check_answer (λ answer. CountsCheck answer (faults_of reader.old) (faults_of reader.new)
-        (faults_of writer.old) (faults_of writer.new)) result }
+    ensures own { IsAnswered (λ status. status) (λ answer. IfErr answer IsCheckFault) result }
+    ensures faults { Fails (input AtService None (faults_of reader.old) (faults_of reader.new)
+        ∷ output (faults_of writer.old) (faults_of writer.new) ∷ []) result }
     ensures untouched { IsUntouched is_tool_write result writer.old writer.new }
 {
-    check_answer(check(alloc, reader, writer))
+    match check(alloc, reader, writer) {
+        Ok(status) => Ok(status),
+        Err(fault) => Err(ToolFault::Files(fault)),
+    }
 }

@@ -1,24 +1,17 @@
 //! `extract`: the service definition that a cycle sends.
 
-ghost use Rattle.std.specs.Prelude.{◌≡◌, IfSome, IfOk, IfErr, string_bytes};
+ghost use Rattle.std.specs.Prelude.{◌≡◌, ◌∷◌, [], IfSome, IfOk, IfErr, string_bytes};
 ghost use Rattle.ttx_cycle.specs.Counters.{inner_of, faults_of};
 ghost use Rattle.ttx_cycle.specs.Cycles.{slots_of};
 ghost use Rattle.ttx_files.specs.Answers.{IsUntouched};
-ghost use Rattle.ttx_tool.specs.Extract.{extracted_line, IsExtracted, IsExtractFault, ExtractsText, ExtractsFile, is_extraction_write};
-ghost use Rattle.ttx_tool.specs.Extract.{CountsCycle, CountsExtract};
+ghost use Rattle.ttx_files.specs.Devices.{AtCycle, input, output, IsRight};
+ghost use Rattle.ttx_tool.specs.Extract.{extracted_line, IsExtracted, IsExtractFault, ExtractsText, ExtractsFile, is_extraction_write, FailsExtract};
 
-use super::writing::write_both;
 use crate::faults::{ExtractionFault, ToolFault};
 use std::alloc::{AllocError, Global};
 use std::io::{Read, Write};
-use ttx_cycle::{Counted, Cycle, read_cycle};
-
-// What goes out: the text, and the line.
-#[derive(Drop)]
-struct Told {
-    text: String,
-    line: String,
-}
+use ttx_cycle::{Counted, Cycle};
+use ttx_files::{Filed, FilesFault, read_packets, write_both};
 
 // The line that says how many pages there are.
 fn extracted_line(alloc: Global, count: usize) -> Result<String, AllocError>
@@ -28,8 +21,8 @@ fn extracted_line(alloc: Global, count: usize) -> Result<String, AllocError>
 }
 
 // The text of what a cycle sends, and its line.
-fn tell(alloc: Global, cycle: &Cycle, lines: u8) -> Result<Told, ExtractionFault>
-    ensures told { IfOk result (λ told. IsExtracted (slots_of cycle.now) lines (string_bytes told.text) (string_bytes told.line)) }
+fn tell(alloc: Global, cycle: &Cycle, lines: u8) -> Result<Filed<()>, ExtractionFault>
+    ensures told { IfOk result (λ told. IsExtracted (slots_of cycle.now) lines told.file.items (string_bytes told.line)) }
     ensures fault { IfErr result (IsExtractFault (slots_of cycle.now) lines) }
 {
     let extracted = match ttx_extract::extract(alloc, cycle, lines) {
@@ -38,11 +31,12 @@ fn tell(alloc: Global, cycle: &Cycle, lines: u8) -> Result<Told, ExtractionFault
     };
     let count = extracted.service.pages().len();
     match extracted_line(alloc, count) {
-        Ok(line) => Ok(Told {
-            text: extracted.text,
+        Ok(line) => Ok(Filed {
+            verdict: (),
+            file: extracted.text.into_bytes(),
             line,
         }),
-        Err(_) => Err(ExtractionFault::Tool(ToolFault::NoMemory)),
+        Err(_) => Err(ExtractionFault::Tool(ToolFault::Files(FilesFault::NoMemory))),
     }
 }
 
@@ -51,13 +45,14 @@ fn extract_text<R: Read>(
     alloc: Global,
     reader: &mut Counted<R>,
     lines: u8,
-) -> Result<Told, ExtractionFault>
+) -> Result<Filed<()>, ExtractionFault>
     ensures bytes { IfSome (R.remaining (inner_of reader.old)) (λ bytes. ExtractsText bytes lines result) }
-    ensures faults { CountsCycle result (faults_of reader.old) (faults_of reader.new) }
+    ensures right { IfOk result (λ _. IsRight AtCycle (R.remaining (inner_of reader.old))) }
+    ensures faults { FailsExtract (input AtCycle (R.remaining (inner_of reader.old)) (faults_of reader.old) (faults_of reader.new) ∷ []) result }
 {
-    let cycle = match read_cycle(alloc, reader) {
+    let cycle = match read_packets(alloc, reader) {
         Ok(cycle) => cycle,
-        Err(fault) => return Err(ExtractionFault::Tool(ToolFault::Cycle(fault))),
+        Err(fault) => return Err(ExtractionFault::Tool(ToolFault::Files(fault))),
     };
     match tell(alloc, &cycle, lines) {
         Ok(told) => Ok(told),
@@ -81,16 +76,16 @@ pub fn run<R: Read, O: Write, W: Write>(
     ensures bytes { IfSome (R.remaining (inner_of reader.old)) (λ bytes. ExtractsFile bytes lines
         (O.contents (inner_of file.old)) (O.contents (inner_of file.new)) (W.contents (inner_of writer.old)) (W.contents (inner_of writer.new))
         result) }
-    ensures faults { CountsExtract result (faults_of reader.old) (faults_of reader.new) (faults_of file.old) (faults_of file.new)
-        (faults_of writer.old) (faults_of writer.new) }
+    ensures faults { FailsExtract (input AtCycle (R.remaining (inner_of reader.old)) (faults_of reader.old) (faults_of reader.new)
+        ∷ output (faults_of file.old) (faults_of file.new) ∷ output (faults_of writer.old) (faults_of writer.new) ∷ []) result }
     ensures untouched { IsUntouched is_extraction_write result file.old file.new × IsUntouched is_extraction_write result writer.old writer.new }
 {
     let told = match extract_text(alloc, reader, lines) {
         Ok(told) => told,
         Err(fault) => return Err(fault),
     };
-    match write_both(file, told.text.as_bytes(), writer, told.line.as_str()) {
+    match write_both(file, told.file.as_slice(), writer, told.line.as_bytes()) {
         Ok(()) => Ok(0),
-        Err(fault) => Err(ExtractionFault::Tool(fault)),
+        Err(fault) => Err(ExtractionFault::Tool(ToolFault::Files(fault))),
     }
 }

@@ -1,33 +1,24 @@
 //! `find`: the certificate of a cycle for the pages of a service.
 
-ghost use Rattle.std.specs.Prelude.{◌≡◌, ◌≤◌, IfSome, IfOk, string_bytes};
+ghost use Rattle.std.specs.Prelude.{◌≡◌, ◌≤◌, ◌∷◌, [], IfSome, IfOk, string_bytes};
 ghost use Rattle.ttx_cycle.specs.Counters.{inner_of, faults_of};
 ghost use Rattle.ttx_cycle.specs.Cycles.{slots_of};
 ghost use Rattle.ttx_witness.specs.Certificates.{fields_of};
 ghost use Rattle.ttx_files.specs.Answers.{IsUntouched};
-ghost use Rattle.ttx_tool.specs.FilesFaults.{is_tool_write};
-ghost use Rattle.ttx_tool.specs.Find.{found_line, WritesDeadline, TellsVerdict, IsFoundAndTold, FindsText, FindsFiles, CountsInputs};
-ghost use Rattle.ttx_tool.specs.Find.{CountsFind};
+ghost use Rattle.ttx_files.specs.Devices.{AtCycle, AtService, input, output};
+ghost use Rattle.ttx_tool.specs.Devices.{is_tool_write, Fails, Reads};
+ghost use Rattle.ttx_tool.specs.Find.{found_line, WritesDeadline, TellsVerdict, IsFoundAndTold, FindsText, FindsFiles};
 ghost use Rattle.ttx_tool.specs.PlannedFiles.{FindsDeadline, MakesCertified};
 
-use super::inputs::read_inputs;
-use super::writing::write_both;
 use crate::faults::ToolFault;
 use std::alloc::{AllocError, Global};
 use std::io::{Read, Write};
 use ttx_certify::{certify_service, find_service, verdict_line};
 use ttx_cycle::{Counted, Cycle};
+use ttx_files::{Filed, FilesFault, read_served, write_both};
 use ttx_page::Class;
 use ttx_source::Service;
 use ttx_witness::{Certificate, NoMemory, write_certificate};
-
-// What goes out: the bytes of the certificate's file, the line, and the status.
-#[derive(Drop)]
-pub(super) struct Told {
-    pub file: Vec<u8>,
-    pub line: String,
-    pub status: u8,
-}
 
 // The line of a deadline.
 fn found_line(alloc: Global, deadline: u32) -> Result<String, AllocError>
@@ -41,17 +32,17 @@ pub(super) fn tell_deadline(
     alloc: Global,
     certificate: &Certificate,
     deadline: u32,
-) -> Result<Told, NoMemory>
-    ensures { IfOk result (λ told. WritesDeadline (fields_of certificate.now) deadline told.file.items (string_bytes told.line) told.status) }
+) -> Result<Filed<u8>, NoMemory>
+    ensures { IfOk result (λ told. WritesDeadline (fields_of certificate.now) deadline told.file.items (string_bytes told.line) told.verdict) }
 {
     let file = write_certificate(alloc, certificate)?;
     let Ok(line) = found_line(alloc, deadline) else {
         return Err(NoMemory);
     };
-    Ok(Told {
+    Ok(Filed {
+        verdict: 0,
         file,
         line,
-        status: 0,
     })
 }
 
@@ -61,18 +52,18 @@ fn tell_verdict(
     cycle: &Cycle,
     service: &Service,
     certificate: &Certificate,
-) -> Result<Told, NoMemory>
+) -> Result<Filed<u8>, NoMemory>
     ensures { IfOk result (λ told. TellsVerdict (slots_of cycle.now) service.now (fields_of certificate.now) told.file.items
-        (string_bytes told.line) told.status) }
+        (string_bytes told.line) told.verdict) }
 {
     let Ok(verdict) = certify_service(alloc, cycle, service, certificate) else {
         return Err(NoMemory);
     };
     let line = verdict_line(alloc, certificate, service.pages().len(), verdict)?;
-    Ok(Told {
+    Ok(Filed {
+        verdict: 1,
         file: Vec::new(alloc),
         line,
-        status: 1,
     })
 }
 
@@ -83,11 +74,11 @@ fn tell(
     service: &Service,
     repeat: u8,
     class: Class,
-) -> Result<Told, NoMemory>
+) -> Result<Filed<u8>, NoMemory>
     requires some { 1 ≤ repeat }
     requires few { repeat ≤ 8 }
     ensures { IfOk result (λ told. IsFoundAndTold (slots_of cycle.now) service.now repeat class told.file.items
-        (string_bytes told.line) told.status) }
+        (string_bytes told.line) told.verdict) }
 {
     ttx_witness::certificate_laws::certificates_keep_their_rules();
     ttx_certify::laws::accepted_is_seen();
@@ -108,20 +99,21 @@ fn find_text<A: Read, B: Read>(
     service: &mut Counted<B>,
     repeat: u8,
     class: Class,
-) -> Result<Told, ToolFault>
+) -> Result<Filed<u8>, ToolFault>
     requires some { 1 ≤ repeat }
     requires few { repeat ≤ 8 }
     ensures bytes { IfSome (A.remaining (inner_of cycle.old))
         (λ a. IfSome (B.remaining (inner_of service.old)) (λ b. FindsText a b repeat class result)) }
-    ensures faults { CountsInputs result (faults_of cycle.old) (faults_of cycle.new) (faults_of service.old) (faults_of service.new) }
+    ensures faults { Reads (input AtCycle (A.remaining (inner_of cycle.old)) (faults_of cycle.old) (faults_of cycle.new)
+        ∷ input AtService (B.remaining (inner_of service.old)) (faults_of service.old) (faults_of service.new) ∷ []) result }
 {
-    let inputs = match read_inputs(alloc, cycle, service) {
+    let inputs = match read_served(alloc, cycle, service) {
         Ok(inputs) => inputs,
-        Err(fault) => return Err(fault),
+        Err(fault) => return Err(ToolFault::Files(fault)),
     };
     match tell(alloc, &inputs.cycle, &inputs.service, repeat, class) {
         Ok(told) => Ok(told),
-        Err(_) => Err(ToolFault::NoMemory),
+        Err(_) => Err(ToolFault::Files(FilesFault::NoMemory)),
     }
 }
 
@@ -153,8 +145,9 @@ pub fn run<A: Read, B: Read, O: Write, W: Write>(
         (λ a. IfSome (B.remaining (inner_of service.old)) (λ b. FindsDeadline a b class result)) }
     ensures certified { IfSome (A.remaining (inner_of cycle.old)) (λ a. IfSome (B.remaining (inner_of service.old)) (λ b. MakesCertified a b
         (O.contents (inner_of file.old)) (O.contents (inner_of file.new)) result)) }
-    ensures faults { CountsFind result (faults_of cycle.old) (faults_of cycle.new) (faults_of service.old) (faults_of service.new)
-        (faults_of file.old) (faults_of file.new) (faults_of writer.old) (faults_of writer.new) }
+    ensures faults { Fails (input AtCycle (A.remaining (inner_of cycle.old)) (faults_of cycle.old) (faults_of cycle.new)
+        ∷ input AtService (B.remaining (inner_of service.old)) (faults_of service.old) (faults_of service.new)
+        ∷ output (faults_of file.old) (faults_of file.new) ∷ output (faults_of writer.old) (faults_of writer.new) ∷ []) result }
     ensures untouched { IsUntouched is_tool_write result file.old file.new × IsUntouched is_tool_write result writer.old writer.new }
 {
     crate::laws::planned_is_found();
@@ -163,8 +156,8 @@ pub fn run<A: Read, B: Read, O: Write, W: Write>(
         Ok(told) => told,
         Err(fault) => return Err(fault),
     };
-    match write_both(file, told.file.as_slice(), writer, told.line.as_str()) {
-        Ok(()) => Ok(told.status),
-        Err(fault) => Err(fault),
+    match write_both(file, told.file.as_slice(), writer, told.line.as_bytes()) {
+        Ok(()) => Ok(told.verdict),
+        Err(fault) => Err(ToolFault::Files(fault)),
     }
 }

@@ -1,23 +1,22 @@
 //! `find --deadline` and `find --within`: the certificate of a cycle with the deadline that is asked for.
 
-ghost use Rattle.std.specs.Prelude.{◌≤◌, IfSome, IfOk, string_bytes};
+ghost use Rattle.std.specs.Prelude.{◌≤◌, ◌∷◌, [], IfSome, IfOk, string_bytes};
 ghost use Rattle.ttx_certificate.specs.Certificates.{fields_of};
 ghost use Rattle.ttx_cycle.specs.Counters.{inner_of, faults_of};
 ghost use Rattle.ttx_cycle.specs.Cycles.{slots_of};
 ghost use Rattle.ttx_files.specs.Answers.{IsUntouched};
-ghost use Rattle.ttx_tool.specs.FilesFaults.{is_tool_write};
-ghost use Rattle.ttx_tool.specs.Find.{CountsInputs, CountsFind};
+ghost use Rattle.ttx_files.specs.Devices.{AtCycle, AtService, input, output};
+ghost use Rattle.ttx_tool.specs.Devices.{is_tool_write, Fails, Reads};
 ghost use Rattle.ttx_tool.specs.FindDeadline.{TellsRefused, TellsAsked, IsAskedAndTold, AsksText, AsksFiles};
 
-use super::find::{Told, tell_deadline};
-use super::inputs::read_inputs;
-use super::writing::write_both;
+use super::find::tell_deadline;
 use crate::faults::ToolFault;
 use std::alloc::Global;
 use std::io::{Read, Write};
 use ttx_certify::{Verdict, verdict_line};
 use ttx_cycle::{Counted, Cycle};
 use ttx_deadline::{Asked, find_with};
+use ttx_files::{Filed, FilesFault, read_served, write_both};
 use ttx_source::Service;
 use ttx_witness::{Certificate, NoMemory, Reason};
 
@@ -27,14 +26,14 @@ fn tell_refused(
     certificate: &Certificate,
     pages: usize,
     reason: Reason,
-) -> Result<Told, NoMemory>
-    ensures { IfOk result (λ told. TellsRefused (fields_of certificate.now) pages reason told.file.items (string_bytes told.line) told.status) }
+) -> Result<Filed<u8>, NoMemory>
+    ensures { IfOk result (λ told. TellsRefused (fields_of certificate.now) pages reason told.file.items (string_bytes told.line) told.verdict) }
 {
     let line = verdict_line(alloc, certificate, pages, Verdict::No(reason))?;
-    Ok(Told {
+    Ok(Filed {
+        verdict: 1,
         file: Vec::new(alloc),
         line,
-        status: 1,
     })
 }
 
@@ -45,9 +44,9 @@ fn tell_verdict(
     deadline: u32,
     pages: usize,
     verdict: Verdict,
-) -> Result<Told, NoMemory>
+) -> Result<Filed<u8>, NoMemory>
     ensures { IfOk result (λ told. TellsAsked (fields_of certificate.now) deadline pages verdict told.file.items (string_bytes told.line)
-        told.status) }
+        told.verdict) }
 {
     match verdict {
         Verdict::Yes => tell_deadline(alloc, certificate, deadline),
@@ -56,12 +55,17 @@ fn tell_verdict(
 }
 
 // What is found for the pages of a service, and what goes out.
-fn tell(alloc: Global, cycle: &Cycle, service: &Service, asked: Asked) -> Result<Told, NoMemory>
+fn tell(
+    alloc: Global,
+    cycle: &Cycle,
+    service: &Service,
+    asked: Asked,
+) -> Result<Filed<u8>, NoMemory>
     requires some { 1 ≤ asked.repeat }
     requires few { asked.repeat ≤ 8 }
     requires some_fields { 1 ≤ asked.deadline }
     requires few_fields { asked.deadline ≤ 1000000 }
-    ensures { IfOk result (λ told. IsAskedAndTold (slots_of cycle.now) service.now asked told.file.items (string_bytes told.line) told.status) }
+    ensures { IfOk result (λ told. IsAskedAndTold (slots_of cycle.now) service.now asked told.file.items (string_bytes told.line) told.verdict) }
 {
     let Ok(found) = find_with(alloc, cycle, service, asked) else {
         return Err(NoMemory);
@@ -85,21 +89,22 @@ fn find_text<A: Read, B: Read>(
     cycle: &mut Counted<A>,
     service: &mut Counted<B>,
     asked: Asked,
-) -> Result<Told, ToolFault>
+) -> Result<Filed<u8>, ToolFault>
     requires some { 1 ≤ asked.repeat }
     requires few { asked.repeat ≤ 8 }
     requires some_fields { 1 ≤ asked.deadline }
     requires few_fields { asked.deadline ≤ 1000000 }
     ensures bytes { IfSome (A.remaining (inner_of cycle.old)) (λ a. IfSome (B.remaining (inner_of service.old)) (λ b. AsksText a b asked result)) }
-    ensures faults { CountsInputs result (faults_of cycle.old) (faults_of cycle.new) (faults_of service.old) (faults_of service.new) }
+    ensures faults { Reads (input AtCycle (A.remaining (inner_of cycle.old)) (faults_of cycle.old) (faults_of cycle.new)
+        ∷ input AtService (B.remaining (inner_of service.old)) (faults_of service.old) (faults_of service.new) ∷ []) result }
 {
-    let inputs = match read_inputs(alloc, cycle, service) {
+    let inputs = match read_served(alloc, cycle, service) {
         Ok(inputs) => inputs,
-        Err(fault) => return Err(fault),
+        Err(fault) => return Err(ToolFault::Files(fault)),
     };
     match tell(alloc, &inputs.cycle, &inputs.service, asked) {
         Ok(told) => Ok(told),
-        Err(_) => Err(ToolFault::NoMemory),
+        Err(_) => Err(ToolFault::Files(FilesFault::NoMemory)),
     }
 }
 
@@ -125,16 +130,17 @@ pub fn run<A: Read, B: Read, O: Write, W: Write>(
     ensures bytes { IfSome (A.remaining (inner_of cycle.old)) (λ a. IfSome (B.remaining (inner_of service.old)) (λ b. AsksFiles a b asked
         (O.contents (inner_of file.old)) (O.contents (inner_of file.new)) (W.contents (inner_of writer.old)) (W.contents (inner_of writer.new))
         result)) }
-    ensures faults { CountsFind result (faults_of cycle.old) (faults_of cycle.new) (faults_of service.old) (faults_of service.new)
-        (faults_of file.old) (faults_of file.new) (faults_of writer.old) (faults_of writer.new) }
+    ensures faults { Fails (input AtCycle (A.remaining (inner_of cycle.old)) (faults_of cycle.old) (faults_of cycle.new)
+        ∷ input AtService (B.remaining (inner_of service.old)) (faults_of service.old) (faults_of service.new)
+        ∷ output (faults_of file.old) (faults_of file.new) ∷ output (faults_of writer.old) (faults_of writer.new) ∷ []) result }
     ensures untouched { IsUntouched is_tool_write result file.old file.new × IsUntouched is_tool_write result writer.old writer.new }
 {
     let told = match find_text(alloc, cycle, service, asked) {
         Ok(told) => told,
         Err(fault) => return Err(fault),
     };
-    match write_both(file, told.file.as_slice(), writer, told.line.as_str()) {
-        Ok(()) => Ok(told.status),
-        Err(fault) => Err(fault),
+    match write_both(file, told.file.as_slice(), writer, told.line.as_bytes()) {
+        Ok(()) => Ok(told.verdict),
+        Err(fault) => Err(ToolFault::Files(fault)),
     }
 }

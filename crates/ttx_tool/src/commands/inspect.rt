@@ -1,16 +1,18 @@
 //! `inspect`: the slots of a packet file.
 
-ghost use Rattle.std.specs.Prelude.{IfSome};
+ghost use Rattle.std.specs.Prelude.{◌∷◌, [], IfSome};
 ghost use Rattle.ttx_cycle.specs.Counters.{inner_of, faults_of};
 ghost use Rattle.ttx_files.specs.Answers.{IsUntouched};
-ghost use Rattle.ttx_tool.specs.FilesFaults.{is_tool_write};
-ghost use Rattle.ttx_tool.specs.Inspect.{Inspects, CountsInspect};
+ghost use Rattle.ttx_files.specs.Devices.{AtCycle, input, output};
+ghost use Rattle.ttx_tool.specs.Devices.{is_tool_write, Fails};
+ghost use Rattle.ttx_tool.specs.Inspect.{Inspects};
 
 use crate::faults::ToolFault;
 use crate::lines::lines;
 use std::alloc::Global;
 use std::io::{Read, Write};
-use ttx_cycle::{Counted, read_cycle, write_bytes};
+use ttx_cycle::Counted;
+use ttx_files::{FilesFault, read_packets, write_line};
 
 /// Reads a packet file and writes a line for each of its slots.
 ///
@@ -23,20 +25,19 @@ pub fn run<R: Read, W: Write>(
 ) -> Result<(), ToolFault>
     ensures bytes { IfSome (R.remaining (inner_of reader.old))
         (λ bytes. Inspects bytes (W.contents (inner_of writer.old)) (W.contents (inner_of writer.new)) result) }
-    ensures faults { CountsInspect result (faults_of reader.old) (faults_of reader.new) (faults_of writer.old) (faults_of writer.new) }
+    ensures faults { Fails (input AtCycle (R.remaining (inner_of reader.old)) (faults_of reader.old) (faults_of reader.new)
+        ∷ output (faults_of writer.old) (faults_of writer.new) ∷ []) result }
     ensures untouched { IsUntouched is_tool_write result writer.old writer.new }
 {
-    let cycle = match read_cycle(alloc, reader) {
+    let cycle = match read_packets(alloc, reader) {
         Ok(cycle) => cycle,
-        Err(fault) => return Err(ToolFault::Cycle(fault)),
+        Err(fault) => return Err(ToolFault::Files(fault)),
     };
     let Ok(text) = lines(alloc, cycle.slots()) else {
-        return Err(ToolFault::NoMemory);
+        return Err(ToolFault::Files(FilesFault::NoMemory));
     };
-    match write_bytes(writer, text.as_bytes()) {
+    match write_line(writer, text.as_bytes()) {
         Ok(()) => Ok(()),
-        Err(fault) => Err(ToolFault::Write {
-            written: fault.written,
-        }),
+        Err(fault) => Err(ToolFault::Files(fault)),
     }
 }

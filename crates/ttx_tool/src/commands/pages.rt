@@ -1,28 +1,19 @@
 //! `pages`: the pages of a packet file.
 
-ghost use Rattle.std.specs.Prelude.{◌≡◌, IfSome};
+ghost use Rattle.std.specs.Prelude.{◌∷◌, [], IfSome};
 ghost use Rattle.ttx_cycle.specs.Counters.{inner_of, faults_of};
 ghost use Rattle.ttx_files.specs.Answers.{IsUntouched};
+ghost use Rattle.ttx_files.specs.Devices.{AtCycle, input, output};
 ghost use Rattle.ttx_pages.specs.Listing.{pages_text};
-ghost use Rattle.ttx_pages.specs.Paging.{WritesTextOf, CountsPages};
-ghost use Rattle.ttx_tool.specs.Answers.{pages_answer, IsAnswered};
-ghost use Rattle.ttx_tool.specs.FilesFaults.{is_tool_write};
+ghost use Rattle.ttx_pages.specs.Paging.{WritesTextOf};
+ghost use Rattle.ttx_tool.specs.Answers.{pages_status, IsAnswered};
+ghost use Rattle.ttx_tool.specs.Devices.{is_tool_write, Fails};
 
 use crate::faults::ToolFault;
 use std::alloc::Global;
 use std::io::{Read, Write};
 use ttx_cycle::Counted;
-use ttx_pages::{PagesFault, pages};
-
-// The answer of the command.
-pub(super) fn pages_answer(listed: Result<(), PagesFault>) -> Result<u8, ToolFault>
-    ensures { result ≡ pages_answer listed }
-{
-    match listed {
-        Ok(()) => Ok(0),
-        Err(fault) => Err(ToolFault::from_pages(fault)),
-    }
-}
+use ttx_pages::pages;
 
 /// Reads a packet file and writes a line for each page that has a header in it, by rising page numbers, and a line for what belongs to
 /// no page. The status is 0.
@@ -34,11 +25,14 @@ pub fn run<R: Read, W: Write>(
     reader: &mut Counted<R>,
     writer: &mut Counted<W>,
 ) -> Result<u8, ToolFault>
-    ensures bytes { IsAnswered pages_answer (λ answer. IfSome (R.remaining (inner_of reader.old))
+    ensures bytes { IsAnswered pages_status (λ answer. IfSome (R.remaining (inner_of reader.old))
         (λ bytes. WritesTextOf pages_text bytes (W.contents (inner_of writer.old)) (W.contents (inner_of writer.new)) answer)) result }
-    ensures faults { IsAnswered pages_answer (λ answer. CountsPages answer (faults_of reader.old) (faults_of reader.new)
-        (faults_of writer.old) (faults_of writer.new)) result }
+    ensures faults { Fails (input AtCycle (R.remaining (inner_of reader.old)) (faults_of reader.old) (faults_of reader.new)
+        ∷ output (faults_of writer.old) (faults_of writer.new) ∷ []) result }
     ensures untouched { IsUntouched is_tool_write result writer.old writer.new }
 {
-    pages_answer(pages(alloc, reader, writer))
+    match pages(alloc, reader, writer) {
+        Ok(()) => Ok(0),
+        Err(fault) => Err(ToolFault::Files(fault)),
+    }
 }

@@ -1,17 +1,17 @@
 //! `plan`: the cycle that carries a service.
 
-ghost use Rattle.std.specs.Prelude.{◌≡◌, IfSome, IfOk, string_bytes};
+ghost use Rattle.std.specs.Prelude.{◌≡◌, ◌∷◌, [], IfSome, IfOk, string_bytes};
 ghost use Rattle.ttx_cycle.specs.Counters.{inner_of, faults_of};
 ghost use Rattle.ttx_files.specs.Answers.{IsUntouched};
-ghost use Rattle.ttx_tool.specs.FilesFaults.{is_tool_write};
-ghost use Rattle.ttx_tool.specs.Plan.{PlansText, CountsDefinition, planned_line, Plans, CountsPlan};
+ghost use Rattle.ttx_files.specs.Devices.{AtService, input, output};
+ghost use Rattle.ttx_tool.specs.Devices.{is_tool_write, Fails, Reads};
+ghost use Rattle.ttx_tool.specs.Plan.{PlansText, planned_line, Plans};
 
-use super::inputs::read_definition;
-use super::writing::write_both;
 use crate::faults::ToolFault;
 use std::alloc::{AllocError, Global};
 use std::io::{Read, Write};
 use ttx_cycle::{Counted, Cycle};
+use ttx_files::{FilesFault, read_definition, write_both};
 use ttx_plan::{Receivers, plan_with};
 
 // The cycle that carries the service of a text.
@@ -21,11 +21,11 @@ fn plan_text<R: Read>(
     receivers: Receivers,
 ) -> Result<Cycle, ToolFault>
     ensures bytes { IfSome (R.remaining (inner_of reader.old)) (λ bytes. PlansText bytes receivers.late receivers.class result) }
-    ensures faults { CountsDefinition result (faults_of reader.old) (faults_of reader.new) }
+    ensures faults { Reads (input AtService (R.remaining (inner_of reader.old)) (faults_of reader.old) (faults_of reader.new) ∷ []) result }
 {
     let service = match read_definition(alloc, reader) {
         Ok(service) => service,
-        Err(fault) => return Err(fault),
+        Err(fault) => return Err(ToolFault::Files(fault)),
     };
     match plan_with(alloc, &service, receivers) {
         Ok(cycle) => Ok(cycle),
@@ -55,8 +55,8 @@ pub fn run<R: Read, O: Write, W: Write>(
     ensures bytes { IfSome (R.remaining (inner_of reader.old)) (λ bytes. Plans bytes receivers.late receivers.class
         (O.contents (inner_of file.old)) (O.contents (inner_of file.new)) (W.contents (inner_of writer.old)) (W.contents (inner_of writer.new))
         result) }
-    ensures faults { CountsPlan result (faults_of reader.old) (faults_of reader.new) (faults_of file.old) (faults_of file.new)
-        (faults_of writer.old) (faults_of writer.new) }
+    ensures faults { Fails (input AtService (R.remaining (inner_of reader.old)) (faults_of reader.old) (faults_of reader.new)
+        ∷ output (faults_of file.old) (faults_of file.new) ∷ output (faults_of writer.old) (faults_of writer.new) ∷ []) result }
     ensures untouched { IsUntouched is_tool_write result file.old file.new × IsUntouched is_tool_write result writer.old writer.new }
 {
     let cycle = match plan_text(alloc, reader, receivers) {
@@ -65,10 +65,10 @@ pub fn run<R: Read, O: Write, W: Write>(
     };
     let slots = cycle.slots();
     let Ok(line) = planned_line(alloc, slots.len()) else {
-        return Err(ToolFault::NoMemory);
+        return Err(ToolFault::Files(FilesFault::NoMemory));
     };
-    match write_both(file, slots.as_flattened(), writer, line.as_str()) {
+    match write_both(file, slots.as_flattened(), writer, line.as_bytes()) {
         Ok(()) => Ok(0),
-        Err(fault) => Err(fault),
+        Err(fault) => Err(ToolFault::Files(fault)),
     }
 }

@@ -1,23 +1,24 @@
 //! `plan --spread`: the cycle that carries a service in rounds of like length, and keeps its promises.
 
-ghost use Rattle.std.specs.Prelude.{◌≤◌, IfSome, map};
+ghost use Rattle.std.specs.Prelude.{◌≤◌, ◌∷◌, [], IfSome, map};
 ghost use Rattle.ttx_cycle.specs.Counters.{inner_of, faults_of};
 ghost use Rattle.ttx_cycle.specs.Cycles.{slots_of};
 ghost use Rattle.ttx_files.specs.Answers.{IsUntouched};
+ghost use Rattle.ttx_files.specs.Devices.{AtService, input, output};
 ghost use Rattle.ttx_promise.specs.PromiseLines.{late_lines};
 ghost use Rattle.ttx_promise.specs.Views.{late_view};
-ghost use Rattle.ttx_tool.specs.FilesFaults.{is_tool_write};
-ghost use Rattle.ttx_tool.specs.Plan.{CountsDefinition, CountsBoth, CountsPlan};
+ghost use Rattle.ttx_tool.specs.Devices.{is_tool_write, Fails, Reads};
 ghost use Rattle.ttx_tool.specs.Promised.{Spreads, WritesPlan, PlansSpread};
-ghost use Rattle.ttx_tool.specs.Reports.{Reports, CountsReport};
+ghost use Rattle.ttx_tool.specs.Reports.{Reports};
 
 use super::plan::planned_line;
 use super::promised::read_promised;
-use super::writing::{write_both, write_text};
+use super::reports::write_text;
 use crate::faults::ToolFault;
 use std::alloc::Global;
 use std::io::{Read, Write};
 use ttx_cycle::{Counted, Cycle};
+use ttx_files::{FilesFault, write_both};
 use ttx_plan::PlanFault;
 use ttx_promise::{LatePage, PromiseFault, Viewers, late_lines, plan_promises};
 
@@ -39,7 +40,7 @@ fn spread_text<R: Read>(
     requires some { 1 ≤ viewers.repeat }
     requires few { viewers.repeat ≤ 8 }
     ensures bytes { IfSome (R.remaining (inner_of reader.old)) (λ bytes. Spreads bytes viewers result) }
-    ensures faults { CountsDefinition result (faults_of reader.old) (faults_of reader.new) }
+    ensures faults { Reads (input AtService (R.remaining (inner_of reader.old)) (faults_of reader.old) (faults_of reader.new) ∷ []) result }
 {
     let mut promised = match read_promised(alloc, reader) {
         Ok(promised) => promised,
@@ -50,7 +51,7 @@ fn spread_text<R: Read>(
         Err(PromiseFault::Late { pages }) => Ok(Spread::Late(pages)),
         Err(PromiseFault::NoPages) => Err(ToolFault::Plan(PlanFault::NoPages)),
         Err(PromiseFault::TooLong) => Err(ToolFault::Plan(PlanFault::TooLong)),
-        Err(PromiseFault::NoMemory) => Err(ToolFault::NoMemory),
+        Err(PromiseFault::NoMemory) => Err(ToolFault::Files(FilesFault::NoMemory)),
     }
 }
 
@@ -63,16 +64,16 @@ fn write_plan<O: Write, W: Write>(
 ) -> Result<u8, ToolFault>
     ensures bytes { WritesPlan (slots_of cycle.now) (O.contents (inner_of file.old)) (O.contents (inner_of file.new))
         (W.contents (inner_of writer.old)) (W.contents (inner_of writer.new)) result }
-    ensures faults { CountsBoth result (faults_of file.old) (faults_of file.new) (faults_of writer.old) (faults_of writer.new) }
+    ensures faults { Fails (output (faults_of file.old) (faults_of file.new) ∷ output (faults_of writer.old) (faults_of writer.new) ∷ []) result }
     ensures untouched { IsUntouched is_tool_write result file.old file.new × IsUntouched is_tool_write result writer.old writer.new }
 {
     let slots = cycle.slots();
     let Ok(line) = planned_line(alloc, slots.len()) else {
-        return Err(ToolFault::NoMemory);
+        return Err(ToolFault::Files(FilesFault::NoMemory));
     };
-    match write_both(file, slots.as_flattened(), writer, line.as_str()) {
+    match write_both(file, slots.as_flattened(), writer, line.as_bytes()) {
         Ok(()) => Ok(0),
-        Err(fault) => Err(fault),
+        Err(fault) => Err(ToolFault::Files(fault)),
     }
 }
 
@@ -83,11 +84,11 @@ fn write_late<W: Write>(
     writer: &mut Counted<W>,
 ) -> Result<u8, ToolFault>
     ensures bytes { Reports (late_lines (map late_view pages.now)) 1 (W.contents (inner_of writer.old)) (W.contents (inner_of writer.new)) result }
-    ensures faults { CountsReport result (faults_of writer.old) (faults_of writer.new) }
+    ensures faults { Fails (output (faults_of writer.old) (faults_of writer.new) ∷ []) result }
     ensures untouched { IsUntouched is_tool_write result writer.old writer.new }
 {
     let Ok(lines) = late_lines(alloc, pages) else {
-        return Err(ToolFault::NoMemory);
+        return Err(ToolFault::Files(FilesFault::NoMemory));
     };
     write_text(writer, lines.as_str(), 1)
 }
@@ -110,8 +111,8 @@ pub fn run<R: Read, O: Write, W: Write>(
     ensures bytes { IfSome (R.remaining (inner_of reader.old)) (λ bytes. PlansSpread bytes viewers
         (O.contents (inner_of file.old)) (O.contents (inner_of file.new)) (W.contents (inner_of writer.old)) (W.contents (inner_of writer.new))
         result) }
-    ensures faults { CountsPlan result (faults_of reader.old) (faults_of reader.new) (faults_of file.old) (faults_of file.new)
-        (faults_of writer.old) (faults_of writer.new) }
+    ensures faults { Fails (input AtService (R.remaining (inner_of reader.old)) (faults_of reader.old) (faults_of reader.new)
+        ∷ output (faults_of file.old) (faults_of file.new) ∷ output (faults_of writer.old) (faults_of writer.new) ∷ []) result }
     ensures untouched { IsUntouched is_tool_write result file.old file.new × IsUntouched is_tool_write result writer.old writer.new }
 {
     match spread_text(alloc, reader, viewers) {

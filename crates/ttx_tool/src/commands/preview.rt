@@ -1,22 +1,22 @@
 //! `preview`: a page of a service as it is shown once it is received whole.
 
-ghost use Rattle.std.specs.Prelude.{◌≡◌, IfSome, IfOk, map, option_map, string_bytes};
+ghost use Rattle.std.specs.Prelude.{◌≡◌, ◌∷◌, [], IfSome, IfOk, map, option_map, string_bytes};
 ghost use Rattle.ttx_cycle.specs.Counters.{inner_of, faults_of};
 ghost use Rattle.ttx_page.specs.Views.{page_of};
 ghost use Rattle.ttx_files.specs.Answers.{IsUntouched};
+ghost use Rattle.ttx_files.specs.Devices.{AtService, input, output};
 ghost use Rattle.ttx_source.specs.Services.{pages_of};
-ghost use Rattle.ttx_tool.specs.FilesFaults.{is_tool_write};
-ghost use Rattle.ttx_tool.specs.Preview.{first_match, preview_text, preview_status, PreviewsText, Previews, CountsPreview};
-ghost use Rattle.ttx_tool.specs.Plan.{CountsDefinition};
+ghost use Rattle.ttx_tool.specs.Devices.{is_tool_write, Fails, Reads};
+ghost use Rattle.ttx_tool.specs.Preview.{first_match, preview_text, preview_status, PreviewsText, Previews};
 
-use super::inputs::read_definition;
+use super::reports::write_text;
 use super::show::{no_page_line, picture};
-use super::writing::{Told, write_text};
 use crate::faults::ToolFault;
 use std::alloc::{AllocError, Global};
 use std::io::{Read, Write};
 use ttx_arguments::Look;
 use ttx_cycle::Counted;
+use ttx_files::{FilesFault, Told, read_definition};
 use ttx_page::{Page, PageMemory, Selection};
 use ttx_render::render;
 use ttx_source::Service;
@@ -58,14 +58,14 @@ fn shown(
     service: &Service,
     selection: &Selection,
     look: &Look<'_>,
-) -> Result<Told, AllocError>
-    ensures { IfOk result (λ preview. (string_bytes preview.text ≡ preview_text look.now (first_match selection.now (pages_of service.now)))
-        × (preview.status ≡ preview_status (first_match selection.now (pages_of service.now)))) }
+) -> Result<Told<u8>, AllocError>
+    ensures { IfOk result (λ preview. (string_bytes preview.line ≡ preview_text look.now (first_match selection.now (pages_of service.now)))
+        × (preview.verdict ≡ preview_status (first_match selection.now (pages_of service.now)))) }
 {
     let page = first_match(service.pages(), selection);
     Ok(Told {
-        text: preview_text(alloc, look, page)?,
-        status: preview_status(page),
+        verdict: preview_status(page),
+        line: preview_text(alloc, look, page)?,
     })
 }
 
@@ -75,17 +75,17 @@ fn preview_service<R: Read>(
     reader: &mut Counted<R>,
     selection: &Selection,
     look: &Look<'_>,
-) -> Result<Told, ToolFault>
+) -> Result<Told<u8>, ToolFault>
     ensures bytes { IfSome (R.remaining (inner_of reader.old)) (λ bytes. PreviewsText bytes selection.now look.now result) }
-    ensures faults { CountsDefinition result (faults_of reader.old) (faults_of reader.new) }
+    ensures faults { Reads (input AtService (R.remaining (inner_of reader.old)) (faults_of reader.old) (faults_of reader.new) ∷ []) result }
 {
     let service = match read_definition(alloc, reader) {
         Ok(service) => service,
-        Err(fault) => return Err(fault),
+        Err(fault) => return Err(ToolFault::Files(fault)),
     };
     match shown(alloc, &service, selection, look) {
         Ok(preview) => Ok(preview),
-        Err(_) => Err(ToolFault::NoMemory),
+        Err(_) => Err(ToolFault::Files(FilesFault::NoMemory)),
     }
 }
 
@@ -103,12 +103,13 @@ pub fn run<R: Read, W: Write>(
 ) -> Result<u8, ToolFault>
     ensures bytes { IfSome (R.remaining (inner_of reader.old))
         (λ bytes. Previews bytes selection.now look.now (W.contents (inner_of writer.old)) (W.contents (inner_of writer.new)) result) }
-    ensures faults { CountsPreview result (faults_of reader.old) (faults_of reader.new) (faults_of writer.old) (faults_of writer.new) }
+    ensures faults { Fails (input AtService (R.remaining (inner_of reader.old)) (faults_of reader.old) (faults_of reader.new)
+        ∷ output (faults_of writer.old) (faults_of writer.new) ∷ []) result }
     ensures untouched { IsUntouched is_tool_write result writer.old writer.new }
 {
     let preview = match preview_service(alloc, reader, selection, look) {
         Ok(preview) => preview,
         Err(fault) => return Err(fault),
     };
-    write_text(writer, preview.text.as_str(), preview.status)
+    write_text(writer, preview.line.as_str(), preview.verdict)
 }

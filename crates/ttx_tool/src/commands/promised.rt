@@ -1,16 +1,16 @@
 //! What is read of the text of a service with promises, alone and after a packet file.
 
-ghost use Rattle.std.specs.Prelude.{IfSome};
+ghost use Rattle.std.specs.Prelude.{◌∷◌, [], IfSome};
 ghost use Rattle.ttx_cycle.specs.Counters.{inner_of, faults_of};
-ghost use Rattle.ttx_tool.specs.Find.{CountsInputs};
-ghost use Rattle.ttx_tool.specs.Plan.{CountsDefinition};
+ghost use Rattle.ttx_files.specs.Devices.{AtCycle, AtService, input};
+ghost use Rattle.ttx_tool.specs.Devices.{Reads};
 ghost use Rattle.ttx_tool.specs.Promised.{DefinesPromised, ReadsPromised, ReadsPromisedInputs};
 
 use crate::faults::ToolFault;
 use std::alloc::Global;
 use std::io::Read;
-use ttx_cycle::{Counted, Cycle, MOST_BYTES, TextFault, read_cycle, read_text};
-use ttx_files::TextFile;
+use ttx_cycle::{Counted, Cycle};
+use ttx_files::{FilesFault, read_packets, read_service_text};
 use ttx_source::{Promise, Service, SourceError, read_promises, read_service};
 
 /// A service, and its promises.
@@ -47,18 +47,15 @@ pub(super) fn read_promised<R: Read>(
     reader: &mut Counted<R>,
 ) -> Result<Promised, ToolFault>
     ensures bytes { IfSome (R.remaining (inner_of reader.old)) (λ bytes. ReadsPromised bytes result) }
-    ensures faults { CountsDefinition result (faults_of reader.old) (faults_of reader.new) }
+    ensures faults { Reads (input AtService (R.remaining (inner_of reader.old)) (faults_of reader.old) (faults_of reader.new) ∷ []) result }
 {
-    let which = TextFile::Service;
-    let text = match read_text(alloc, reader, MOST_BYTES) {
+    let text = match read_service_text(alloc, reader) {
         Ok(text) => text,
-        Err(TextFault::Read) => return Err(ToolFault::Read { which }),
-        Err(TextFault::TooLong) => return Err(ToolFault::TooLong { which }),
-        Err(TextFault::NoMemory) => return Err(ToolFault::NoMemory),
+        Err(fault) => return Err(ToolFault::Files(fault)),
     };
     match define(alloc, text.as_slice()) {
         Ok(promised) => Ok(promised),
-        Err(error) => Err(ToolFault::Service(error)),
+        Err(error) => Err(ToolFault::Files(FilesFault::Service(error))),
     }
 }
 
@@ -70,11 +67,12 @@ pub(super) fn read_promised_inputs<A: Read, B: Read>(
 ) -> Result<PromisedInputs, ToolFault>
     ensures bytes { IfSome (A.remaining (inner_of cycle.old))
         (λ a. IfSome (B.remaining (inner_of service.old)) (λ b. ReadsPromisedInputs a b result)) }
-    ensures faults { CountsInputs result (faults_of cycle.old) (faults_of cycle.new) (faults_of service.old) (faults_of service.new) }
+    ensures faults { Reads (input AtCycle (A.remaining (inner_of cycle.old)) (faults_of cycle.old) (faults_of cycle.new)
+        ∷ input AtService (B.remaining (inner_of service.old)) (faults_of service.old) (faults_of service.new) ∷ []) result }
 {
-    let cycle = match read_cycle(alloc, cycle) {
+    let cycle = match read_packets(alloc, cycle) {
         Ok(cycle) => cycle,
-        Err(fault) => return Err(ToolFault::Cycle(fault)),
+        Err(fault) => return Err(ToolFault::Files(fault)),
     };
     match read_promised(alloc, service) {
         Ok(promised) => Ok(PromisedInputs { cycle, promised }),

@@ -1,14 +1,14 @@
 //! `receive`: what a receiver holds after some slots of a cycle.
 
-ghost use Rattle.std.specs.Prelude.{IfSome, fold};
+ghost use Rattle.std.specs.Prelude.{◌∷◌, [], IfSome, fold};
 ghost use Rattle.ttx_cycle.specs.Counters.{inner_of, faults_of};
 ghost use Rattle.ttx_files.specs.Answers.{IsUntouched};
+ghost use Rattle.ttx_files.specs.Devices.{AtCycle, input, output};
 ghost use Rattle.ttx_page.specs.Memories.{blank_memory};
-ghost use Rattle.ttx_tool.specs.FilesFaults.{is_tool_write};
-ghost use Rattle.ttx_tool.specs.Inspect.{CountsInspect};
+ghost use Rattle.ttx_tool.specs.Devices.{is_tool_write, Fails};
 ghost use Rattle.ttx_tool.specs.Receive.{tuned_as, tuned_to, held_by, Receives};
 
-use super::writing::write_text;
+use super::reports::write_text;
 use crate::faults::ToolFault;
 use crate::stepping::hear_file;
 use crate::views::view_lines;
@@ -16,6 +16,7 @@ use std::alloc::Global;
 use std::io::{Read, Write};
 use ttx_arguments::{ReceiverKind, Tuning};
 use ttx_cycle::Counted;
+use ttx_files::FilesFault;
 use ttx_page::PageMemory;
 use ttx_receiver::{Careful, Cleared, Eager, Receiver, Watched};
 
@@ -32,15 +33,16 @@ fn receive_by<R: Read, X: Receiver + Drop, W: Write>(
         (λ bytes. Receives (tuned_as (X.kind receiver) (X.field receiver) (X.tuned receiver))
         (λ sent. X.held (fold X.next receiver sent)) start count bytes (X.held receiver)
         (W.contents (inner_of writer.old)) (W.contents (inner_of writer.new)) result) }
-    ensures faults { CountsInspect result (faults_of reader.old) (faults_of reader.new) (faults_of writer.old) (faults_of writer.new) }
+    ensures faults { Fails (input AtCycle (R.remaining (inner_of reader.old)) (faults_of reader.old) (faults_of reader.new)
+        ∷ output (faults_of writer.old) (faults_of writer.new) ∷ []) result }
     ensures untouched { IsUntouched is_tool_write result writer.old writer.new }
 {
     let mut receiver = Watched::new(receiver);
     if let Err(fault) = hear_file(alloc, reader, &mut receiver, start, count) {
-        return Err(ToolFault::Cycle(fault));
+        return Err(ToolFault::Files(fault));
     }
     let Ok(text) = view_lines(alloc, receiver.view()) else {
-        return Err(ToolFault::NoMemory);
+        return Err(ToolFault::Files(FilesFault::NoMemory));
     };
     write_text(writer, text.as_str(), 0)
 }
@@ -59,7 +61,8 @@ pub fn run<R: Read, W: Write>(
     ensures bytes { IfSome (R.remaining (inner_of reader.old))
         (λ bytes. Receives (tuned_to tuning.now) (held_by tuning.now) tuning.now.start tuning.now.slots bytes blank_memory
         (W.contents (inner_of writer.old)) (W.contents (inner_of writer.new)) result) }
-    ensures faults { CountsInspect result (faults_of reader.old) (faults_of reader.new) (faults_of writer.old) (faults_of writer.new) }
+    ensures faults { Fails (input AtCycle (R.remaining (inner_of reader.old)) (faults_of reader.old) (faults_of reader.new)
+        ∷ output (faults_of writer.old) (faults_of writer.new) ∷ []) result }
     ensures untouched { IsUntouched is_tool_write result writer.old writer.new }
 {
     let (selection, lines, blank) = (tuning.selection, tuning.lines.count(), PageMemory::blank());

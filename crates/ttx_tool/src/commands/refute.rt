@@ -10,11 +10,10 @@ ghost use Rattle.ttx_page.specs.Pages as definitions;
 ghost use Rattle.ttx_page.specs.declared.class.Class.TheVariants.{Any};
 ghost use Rattle.ttx_page.specs.Views.{page_of};
 ghost use Rattle.ttx_files.specs.Answers.{IsUntouched};
-ghost use Rattle.ttx_tool.specs.FilesFaults.{is_tool_write};
+ghost use Rattle.ttx_files.specs.Devices.{AtCycle, AtService, AtCertificate, input, output};
+ghost use Rattle.ttx_tool.specs.Devices.{is_tool_write, Fails, Reads};
 ghost use Rattle.ttx_tool.specs.Refute.{counter_line, counter_numbers, saved, IsRefutation, IsClassFault, RefutesText, RefutesFiles};
-ghost use Rattle.ttx_tool.specs.Refute.{CountsThree, CountsRefute};
 
-use super::writing::write_both;
 use crate::faults::ToolFault;
 use crate::texts::push_numbered;
 use std::alloc::{AllocError, Global};
@@ -22,19 +21,11 @@ use std::io::{Read, Write};
 use ttx_counter::{Counter, refute as counter_to, write_counter};
 use ttx_cycle::{Counted, Cycle};
 use ttx_digits::push_id;
-use ttx_files::{Inputs, read_inputs};
+use ttx_files::{Filed, FilesFault, read_inputs, write_both};
 use ttx_header::PageId;
 use ttx_page::{Class, Page};
 use ttx_source::Service;
 use ttx_witness::{Certificate, NoMemory};
-
-// What goes out: the bytes of the counter-run's file, the line, and the status.
-#[derive(Drop)]
-struct Told {
-    file: Vec<u8>,
-    line: String,
-    status: u8,
-}
 
 // Adds the numbers of a counter-run.
 fn push_counter(line: &mut String, counter: &Counter) -> Result<(), AllocError>
@@ -85,34 +76,34 @@ fn tell_counter(
     pages: &[Page],
     counter: &Counter,
     save: bool,
-) -> Result<Told, NoMemory>
+) -> Result<Filed<u8>, NoMemory>
     requires { counter.now.page < length pages.now }
     ensures line { IfOk result (λ told. (p : definitions.Page) → slice_get (map page_of pages.now) counter.now.page ≡ Some p →
         string_bytes told.line ≡ counter_line p.id (counter_run_of counter.now)) }
     ensures file { IfOk result (λ told. told.file.items ≡ saved save (counter_run_of counter.now)) }
-    ensures status { IfOk result (λ told. told.status ≡ 1) }
+    ensures status { IfOk result (λ told. told.verdict ≡ 1) }
 {
     let Ok(line) = counter_line(alloc, id_at(pages, counter.page), counter) else {
         return Err(NoMemory);
     };
-    Ok(Told {
+    Ok(Filed {
+        verdict: 1,
         file: saved(alloc, counter, save)?,
         line,
-        status: 1,
     })
 }
 
 // What goes out where there is none.
-fn tell_none(alloc: Global) -> Result<Told, NoMemory>
+fn tell_none(alloc: Global) -> Result<Filed<u8>, NoMemory>
     ensures line { IfOk result (λ told. string_bytes told.line ≡ codes "none" ++ 10 ∷ []) }
     ensures file { IfOk result (λ told. told.file.items ≡ []) }
-    ensures status { IfOk result (λ told. told.status ≡ 0) }
+    ensures status { IfOk result (λ told. told.verdict ≡ 0) }
 {
     match String::from_str(alloc, "none\n") {
-        Ok(line) => Ok(Told {
+        Ok(line) => Ok(Filed {
+            verdict: 0,
             file: Vec::new(alloc),
             line,
-            status: 0,
         }),
         Err(_) => Err(NoMemory),
     }
@@ -125,10 +116,10 @@ fn tell_any(
     service: &Service,
     certificate: &Certificate,
     save: bool,
-) -> Result<Told, NoMemory>
+) -> Result<Filed<u8>, NoMemory>
     requires { (fields_of certificate.now).class ≡ Any }
     ensures { IfOk result (λ told. IsRefutation (slots_of cycle.now) service.now (fields_of certificate.now) save told.file.items
-        (string_bytes told.line) told.status) }
+        (string_bytes told.line) told.verdict) }
 {
     let pages = service.pages();
     let counter = counter_to(alloc, cycle, pages, certificate)?;
@@ -145,15 +136,15 @@ fn tell(
     service: &Service,
     certificate: &Certificate,
     save: bool,
-) -> Result<Told, ToolFault>
+) -> Result<Filed<u8>, ToolFault>
     ensures told { IfOk result (λ told. IsRefutation (slots_of cycle.now) service.now (fields_of certificate.now) save told.file.items
-        (string_bytes told.line) told.status) }
+        (string_bytes told.line) told.verdict) }
     ensures fault { IfErr result (IsClassFault (fields_of certificate.now).class) }
 {
     match certificate.class() {
         Class::Any => match tell_any(alloc, cycle, service, certificate, save) {
             Ok(told) => Ok(told),
-            Err(_) => Err(ToolFault::NoMemory),
+            Err(_) => Err(ToolFault::Files(FilesFault::NoMemory)),
         },
         Class::Clearing => Err(ToolFault::Class),
     }
@@ -166,16 +157,17 @@ fn refute_text<A: Read, B: Read, C: Read>(
     service: &mut Counted<B>,
     certificate: &mut Counted<C>,
     save: bool,
-) -> Result<Told, ToolFault>
+) -> Result<Filed<u8>, ToolFault>
     ensures bytes { IfSome (A.remaining (inner_of cycle.old))
         (λ a. IfSome (B.remaining (inner_of service.old)) (λ b. IfSome (C.remaining (inner_of certificate.old))
         (λ c. RefutesText a b c save result))) }
-    ensures faults { CountsThree result (faults_of cycle.old) (faults_of cycle.new) (faults_of service.old) (faults_of service.new)
-        (faults_of certificate.old) (faults_of certificate.new) }
+    ensures faults { Reads (input AtCycle (A.remaining (inner_of cycle.old)) (faults_of cycle.old) (faults_of cycle.new)
+        ∷ input AtService (B.remaining (inner_of service.old)) (faults_of service.old) (faults_of service.new)
+        ∷ input AtCertificate (C.remaining (inner_of certificate.old)) (faults_of certificate.old) (faults_of certificate.new) ∷ []) result }
 {
     let inputs = match read_inputs(alloc, cycle, service, certificate) {
         Ok(inputs) => inputs,
-        Err(fault) => return Err(ToolFault::from_files(fault)),
+        Err(fault) => return Err(ToolFault::Files(fault)),
     };
     match tell(
         alloc,
@@ -209,17 +201,18 @@ pub fn run<A: Read, B: Read, C: Read, O: Write, W: Write>(
         (λ a. IfSome (B.remaining (inner_of service.old)) (λ b. IfSome (C.remaining (inner_of certificate.old)) (λ c. RefutesFiles a b c save
         (O.contents (inner_of file.old)) (O.contents (inner_of file.new)) (W.contents (inner_of writer.old)) (W.contents (inner_of writer.new))
         result))) }
-    ensures faults { CountsRefute result (faults_of cycle.old) (faults_of cycle.new) (faults_of service.old) (faults_of service.new)
-        (faults_of certificate.old) (faults_of certificate.new)
-        (faults_of file.old) (faults_of file.new) (faults_of writer.old) (faults_of writer.new) }
+    ensures faults { Fails (input AtCycle (A.remaining (inner_of cycle.old)) (faults_of cycle.old) (faults_of cycle.new)
+        ∷ input AtService (B.remaining (inner_of service.old)) (faults_of service.old) (faults_of service.new)
+        ∷ input AtCertificate (C.remaining (inner_of certificate.old)) (faults_of certificate.old) (faults_of certificate.new)
+        ∷ output (faults_of file.old) (faults_of file.new) ∷ output (faults_of writer.old) (faults_of writer.new) ∷ []) result }
     ensures untouched { IsUntouched is_tool_write result file.old file.new × IsUntouched is_tool_write result writer.old writer.new }
 {
     let told = match refute_text(alloc, cycle, service, certificate, save) {
         Ok(told) => told,
         Err(fault) => return Err(fault),
     };
-    match write_both(file, told.file.as_slice(), writer, told.line.as_str()) {
-        Ok(()) => Ok(told.status),
-        Err(fault) => Err(fault),
+    match write_both(file, told.file.as_slice(), writer, told.line.as_bytes()) {
+        Ok(()) => Ok(told.verdict),
+        Err(fault) => Err(ToolFault::Files(fault)),
     }
 }

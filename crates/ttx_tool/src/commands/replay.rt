@@ -1,26 +1,26 @@
 //! `replay`: what a viewer sees after a counter-run.
 
-ghost use Rattle.std.specs.Prelude.{◌≡◌, ◌<◌, Some, IfSome, IfOk, length, map, slice_get, string_bytes};
+ghost use Rattle.std.specs.Prelude.{◌≡◌, ◌<◌, ◌∷◌, [], Some, IfSome, IfOk, length, map, slice_get, string_bytes};
 ghost use Rattle.ttx_files.specs.Answers.{IsUntouched};
+ghost use Rattle.ttx_files.specs.Devices.{AtCycle, AtService, AtCounter, input, output};
 ghost use Rattle.ttx_counter.specs.Counters.{counter_run_of};
 ghost use Rattle.ttx_cycle.specs.Counters.{inner_of, faults_of};
 ghost use Rattle.ttx_cycle.specs.Cycles.{slots_of};
 ghost use Rattle.ttx_page.specs.Pages as definitions;
 ghost use Rattle.ttx_page.specs.Views.{page_of, memory_of};
 ghost use Rattle.ttx_source.specs.Services.{pages_of};
-ghost use Rattle.ttx_tool.specs.FilesFaults.{is_tool_write};
-ghost use Rattle.ttx_tool.specs.Replay.{replay_text, none_text, IsReplay, ReadsCounter, ReplaysText, Replays, CountsCounter};
-ghost use Rattle.ttx_tool.specs.Replay.{CountsReplayInputs, CountsReplay};
+ghost use Rattle.ttx_tool.specs.Devices.{is_tool_write, Fails, Reads};
+ghost use Rattle.ttx_tool.specs.Replay.{replay_text, none_text, IsReplay, ReadsCounter, ReplaysText, Replays};
 
-use super::inputs::read_inputs;
 use super::refute::counter_line;
-use super::writing::{Told, write_text};
+use super::reports::write_text;
 use crate::faults::{CounterFileFault, ToolFault};
 use crate::unlike_views::push_unlike_lines;
 use std::alloc::{AllocError, Global};
 use std::io::{Read, Write};
 use ttx_counter::{Counter, read_counter, replay as replay_counter};
-use ttx_cycle::{Counted, Cycle, MOST_BYTES, TextFault, read_text};
+use ttx_cycle::{Counted, Cycle, TextFault};
+use ttx_files::{FilesFault, Told, read_served, read_text};
 use ttx_page::{Page, PageMemory};
 use ttx_render::render;
 use ttx_source::Service;
@@ -29,13 +29,13 @@ use ttx_witness::NoMemory;
 // Reads the text of a counter-run.
 fn read_run<R: Read>(alloc: Global, reader: &mut Counted<R>) -> Result<Counter, ToolFault>
     ensures bytes { IfSome (R.remaining (inner_of reader.old)) (λ bytes. ReadsCounter bytes result) }
-    ensures faults { CountsCounter result (faults_of reader.old) (faults_of reader.new) }
+    ensures faults { Reads (input AtCounter (R.remaining (inner_of reader.old)) (faults_of reader.old) (faults_of reader.new) ∷ []) result }
 {
-    let text = match read_text(alloc, reader, MOST_BYTES) {
+    let text = match read_text(alloc, reader) {
         Ok(text) => text,
         Err(TextFault::Read) => return Err(ToolFault::Counter(CounterFileFault::Read)),
         Err(TextFault::TooLong) => return Err(ToolFault::Counter(CounterFileFault::TooLong)),
-        Err(TextFault::NoMemory) => return Err(ToolFault::NoMemory),
+        Err(TextFault::NoMemory) => return Err(ToolFault::Files(FilesFault::NoMemory)),
     };
     match read_counter(alloc, text.as_slice()) {
         Ok(counter) => Ok(counter),
@@ -68,25 +68,25 @@ fn tell_shown(
     pages: &[Page],
     counter: &Counter,
     memory: &PageMemory,
-) -> Result<Told, NoMemory>
+) -> Result<Told<u8>, NoMemory>
     requires { counter.now.page < length pages.now }
     ensures text { IfOk result (λ told. (p : definitions.Page) → slice_get (map page_of pages.now) counter.now.page ≡ Some p →
-        string_bytes told.text ≡ replay_text p (counter_run_of counter.now) (memory_of memory.now)) }
-    ensures status { IfOk result (λ told. told.status ≡ 0) }
+        string_bytes told.line ≡ replay_text p (counter_run_of counter.now) (memory_of memory.now)) }
+    ensures status { IfOk result (λ told. told.verdict ≡ 0) }
 {
     match replay_text(alloc, &pages[counter.page as usize], counter, memory) {
-        Ok(text) => Ok(Told { text, status: 0 }),
+        Ok(line) => Ok(Told { verdict: 0, line }),
         Err(_) => Err(NoMemory),
     }
 }
 
 // What goes out where there is no counter-run.
-fn tell_none(alloc: Global) -> Result<Told, NoMemory>
-    ensures text { IfOk result (λ told. string_bytes told.text ≡ none_text) }
-    ensures status { IfOk result (λ told. told.status ≡ 1) }
+fn tell_none(alloc: Global) -> Result<Told<u8>, NoMemory>
+    ensures text { IfOk result (λ told. string_bytes told.line ≡ none_text) }
+    ensures status { IfOk result (λ told. told.verdict ≡ 1) }
 {
     match String::from_str(alloc, "not a counter-run\n") {
-        Ok(text) => Ok(Told { text, status: 1 }),
+        Ok(line) => Ok(Told { verdict: 1, line }),
         Err(_) => Err(NoMemory),
     }
 }
@@ -97,9 +97,9 @@ fn tell(
     cycle: &Cycle,
     service: &Service,
     counter: &Counter,
-) -> Result<Told, NoMemory>
+) -> Result<Told<u8>, NoMemory>
     ensures { IfOk result (λ told. IsReplay (slots_of cycle.now) (pages_of service.now) (counter_run_of counter.now)
-        (string_bytes told.text) told.status) }
+        (string_bytes told.line) told.verdict) }
 {
     let pages = service.pages();
     let held = replay_counter(alloc, cycle, pages, counter)?;
@@ -115,16 +115,17 @@ fn replay_files<A: Read, B: Read, C: Read>(
     cycle: &mut Counted<A>,
     service: &mut Counted<B>,
     counter: &mut Counted<C>,
-) -> Result<Told, ToolFault>
+) -> Result<Told<u8>, ToolFault>
     ensures bytes { IfSome (A.remaining (inner_of cycle.old))
         (λ a. IfSome (B.remaining (inner_of service.old)) (λ b. IfSome (C.remaining (inner_of counter.old))
         (λ c. ReplaysText a b c result))) }
-    ensures faults { CountsReplayInputs result (faults_of cycle.old) (faults_of cycle.new) (faults_of service.old) (faults_of service.new)
-        (faults_of counter.old) (faults_of counter.new) }
+    ensures faults { Reads (input AtCycle (A.remaining (inner_of cycle.old)) (faults_of cycle.old) (faults_of cycle.new)
+        ∷ input AtService (B.remaining (inner_of service.old)) (faults_of service.old) (faults_of service.new)
+        ∷ input AtCounter (C.remaining (inner_of counter.old)) (faults_of counter.old) (faults_of counter.new) ∷ []) result }
 {
-    let inputs = match read_inputs(alloc, cycle, service) {
+    let inputs = match read_served(alloc, cycle, service) {
         Ok(inputs) => inputs,
-        Err(fault) => return Err(fault),
+        Err(fault) => return Err(ToolFault::Files(fault)),
     };
     let counter = match read_run(alloc, counter) {
         Ok(counter) => counter,
@@ -132,7 +133,7 @@ fn replay_files<A: Read, B: Read, C: Read>(
     };
     match tell(alloc, &inputs.cycle, &inputs.service, &counter) {
         Ok(told) => Ok(told),
-        Err(_) => Err(ToolFault::NoMemory),
+        Err(_) => Err(ToolFault::Files(FilesFault::NoMemory)),
     }
 }
 
@@ -152,14 +153,15 @@ pub fn run<A: Read, B: Read, C: Read, W: Write>(
     ensures bytes { IfSome (A.remaining (inner_of cycle.old))
         (λ a. IfSome (B.remaining (inner_of service.old)) (λ b. IfSome (C.remaining (inner_of counter.old)) (λ c. Replays a b c
         (W.contents (inner_of writer.old)) (W.contents (inner_of writer.new)) result))) }
-    ensures faults { CountsReplay result (faults_of cycle.old) (faults_of cycle.new) (faults_of service.old) (faults_of service.new)
-        (faults_of counter.old) (faults_of counter.new)
-        (faults_of writer.old) (faults_of writer.new) }
+    ensures faults { Fails (input AtCycle (A.remaining (inner_of cycle.old)) (faults_of cycle.old) (faults_of cycle.new)
+        ∷ input AtService (B.remaining (inner_of service.old)) (faults_of service.old) (faults_of service.new)
+        ∷ input AtCounter (C.remaining (inner_of counter.old)) (faults_of counter.old) (faults_of counter.new)
+        ∷ output (faults_of writer.old) (faults_of writer.new) ∷ []) result }
     ensures untouched { IsUntouched is_tool_write result writer.old writer.new }
 {
     let told = match replay_files(alloc, cycle, service, counter) {
         Ok(told) => told,
         Err(fault) => return Err(fault),
     };
-    write_text(writer, told.text.as_str(), told.status)
+    write_text(writer, told.line.as_str(), told.verdict)
 }

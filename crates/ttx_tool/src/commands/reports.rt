@@ -2,14 +2,14 @@
 
 ghost use Rattle.std.specs.Prelude.{◌≡◌, [], ◌∷◌, ◌++◌, IfOk, codes, string_bytes};
 ghost use Rattle.ttx_files.specs.Answers.{IsUntouched};
+ghost use Rattle.ttx_files.specs.Devices.{output};
 ghost use Rattle.ttx_cycle.specs.Counters.{inner_of, faults_of};
 ghost use Rattle.ttx_extract.specs.Refusals.{refusal_text};
 ghost use Rattle.ttx_source.specs.Faults.{fault_of};
-ghost use Rattle.ttx_tool.specs.FilesFaults.{is_tool_write};
-ghost use Rattle.ttx_tool.specs.Reports.{service_text, service_status, certificate_refusal, extract_text, extract_status, run_text, run_status};
-ghost use Rattle.ttx_tool.specs.Reports.{refused_service, fault_line, status_of, Reports, ReportsWords, CountsReport};
+ghost use Rattle.ttx_tool.specs.Devices.{is_tool_write, Fails};
+ghost use Rattle.ttx_tool.specs.Reports.{service_text, service_status, certificate_refusal, extract_text, extract_status, run_text, run_status, files_text, files_status};
+ghost use Rattle.ttx_tool.specs.Reports.{refused_service, fault_line, status_of, Reports, ReportsWords};
 
-use super::writing::write_text;
 use crate::faults::{CounterFileFault, ToolFault};
 use std::alloc::{AllocError, Global};
 use std::io::Write;
@@ -17,7 +17,7 @@ use ttx_arguments::WordsFault;
 use ttx_counter::CounterFault;
 use ttx_cycle::{Counted, CycleFault};
 use ttx_extract::{ExtractFault, push_refusal};
-use ttx_files::TextFile;
+use ttx_files::{FilesFault, TextFile, write_line};
 use ttx_plan::PlanFault;
 use ttx_source::{SourceError, SourceFault};
 use ttx_witness::CertFault;
@@ -117,31 +117,42 @@ fn run_line(alloc: Global, fault: &CounterFileFault) -> Result<String, AllocErro
     }
 }
 
+// The line of a fault of a file.
+fn files_line(alloc: Global, fault: &FilesFault) -> Result<String, AllocError>
+    ensures { IfOk result (λ line. string_bytes line ≡ files_text fault.now ++ 10 ∷ []) }
+{
+    match fault {
+        FilesFault::Cycle(CycleFault::Truncated { rest }) => {
+            format!(in alloc; "refused: cycle 2 truncated {rest}\n")
+        }
+        FilesFault::Cycle(CycleFault::Empty) => String::from_str(alloc, "refused: cycle 3 empty\n"),
+        FilesFault::Cycle(CycleFault::TooLong) => {
+            String::from_str(alloc, "refused: cycle 4 too-long\n")
+        }
+        FilesFault::Service(error) => service_line(alloc, error),
+        FilesFault::Certificate(fault) => certificate_line(alloc, fault),
+        FilesFault::TooLong {
+            which: TextFile::Service,
+        } => { String::from_str(alloc, "refused: service too-long\n") }
+        FilesFault::TooLong {
+            which: TextFile::Certificate,
+        } => { String::from_str(alloc, "refused: certificate too-long\n") }
+        FilesFault::Cycle(CycleFault::Read) | FilesFault::Read { which: _ } => {
+            String::from_str(alloc, "fault: read\n")
+        }
+        FilesFault::Write { written: _ } => String::from_str(alloc, "fault: write\n"),
+        FilesFault::Cycle(CycleFault::NoMemory) | FilesFault::NoMemory => {
+            String::from_str(alloc, "fault: memory\n")
+        }
+    }
+}
+
 // The line of a fault.
 fn line_of(alloc: Global, fault: &ToolFault) -> Result<String, AllocError>
     ensures { IfOk result (λ line. string_bytes line ≡ fault_line fault.now) }
 {
     match fault {
-        ToolFault::Cycle(CycleFault::Read) => String::from_str(alloc, "fault: read\n"),
-        ToolFault::Cycle(CycleFault::Truncated { rest }) => {
-            format!(in alloc; "refused: cycle 2 truncated {rest}\n")
-        }
-        ToolFault::Cycle(CycleFault::Empty) => String::from_str(alloc, "refused: cycle 3 empty\n"),
-        ToolFault::Cycle(CycleFault::TooLong) => {
-            String::from_str(alloc, "refused: cycle 4 too-long\n")
-        }
-        ToolFault::Cycle(CycleFault::NoMemory) => String::from_str(alloc, "fault: memory\n"),
-        ToolFault::Service(error) => service_line(alloc, error),
-        ToolFault::Certificate(fault) => certificate_line(alloc, fault),
-        ToolFault::Read { which: _ } => String::from_str(alloc, "fault: read\n"),
-        ToolFault::TooLong {
-            which: TextFile::Service,
-        } => { String::from_str(alloc, "refused: service too-long\n") }
-        ToolFault::TooLong {
-            which: TextFile::Certificate,
-        } => { String::from_str(alloc, "refused: certificate too-long\n") }
-        ToolFault::Write { written: _ } => String::from_str(alloc, "fault: write\n"),
-        ToolFault::NoMemory => String::from_str(alloc, "fault: memory\n"),
+        ToolFault::Files(fault) => files_line(alloc, fault),
         ToolFault::Plan(PlanFault::NoPages) => String::from_str(
             alloc,
             "refused: plan 1 no-pages\n",
@@ -188,21 +199,45 @@ fn run_status(fault: &CounterFileFault) -> u8
     }
 }
 
+// The status of the program after a fault of a file.
+fn files_status(fault: &FilesFault) -> u8
+    ensures { result ≡ files_status fault.now }
+{
+    match fault {
+        FilesFault::Cycle(CycleFault::Read | CycleFault::NoMemory) => 3,
+        FilesFault::Cycle(_) => 2,
+        FilesFault::Service(error) => service_status(&error.fault),
+        FilesFault::Certificate(CertFault::NoMemory) => 3,
+        FilesFault::Certificate(_) | FilesFault::TooLong { which: _ } => 2,
+        FilesFault::Read { .. } | FilesFault::Write { .. } | FilesFault::NoMemory => 3,
+    }
+}
+
 // The status of the program after a fault.
 fn status(fault: &ToolFault) -> u8
     ensures { result ≡ status_of fault.now }
 {
     match fault {
-        ToolFault::Cycle(CycleFault::Read | CycleFault::NoMemory) => 3,
-        ToolFault::Cycle(_) => 2,
-        ToolFault::Service(error) => service_status(&error.fault),
-        ToolFault::Certificate(CertFault::NoMemory) => 3,
-        ToolFault::Certificate(_) => 2,
-        ToolFault::TooLong { which: _ } => 2,
+        ToolFault::Files(fault) => files_status(fault),
         ToolFault::Plan(PlanFault::NoMemory) => 3,
         ToolFault::Plan(_) | ToolFault::Class | ToolFault::Same => 2,
         ToolFault::Counter(fault) => run_status(fault),
-        ToolFault::Read { .. } | ToolFault::Write { .. } | ToolFault::NoMemory => 3,
+    }
+}
+
+/// Writes a text, and answers the status. At a fault the first `written` bytes of it went out.
+pub(super) fn write_text<W: Write>(
+    writer: &mut Counted<W>,
+    text: &str,
+    status: u8,
+) -> Result<u8, ToolFault>
+    ensures bytes { Reports text.now status (W.contents (inner_of writer.old)) (W.contents (inner_of writer.new)) result }
+    ensures faults { Fails (output (faults_of writer.old) (faults_of writer.new) ∷ []) result }
+    ensures untouched { IsUntouched is_tool_write result writer.old writer.new }
+{
+    match write_line(writer, text.as_bytes()) {
+        Ok(()) => Ok(status),
+        Err(fault) => Err(ToolFault::Files(fault)),
     }
 }
 
@@ -215,11 +250,11 @@ pub fn report<W: Write>(
     writer: &mut Counted<W>,
 ) -> Result<u8, ToolFault>
     ensures line { Reports (fault_line fault.now) (status_of fault.now) (W.contents (inner_of writer.old)) (W.contents (inner_of writer.new)) result }
-    ensures faults { CountsReport result (faults_of writer.old) (faults_of writer.new) }
+    ensures faults { Fails (output (faults_of writer.old) (faults_of writer.new) ∷ []) result }
     ensures untouched { IsUntouched is_tool_write result writer.old writer.new }
 {
     let Ok(line) = line_of(alloc, fault) else {
-        return Err(ToolFault::NoMemory);
+        return Err(ToolFault::Files(FilesFault::NoMemory));
     };
     write_text(writer, line.as_str(), status(fault))
 }
@@ -234,11 +269,11 @@ pub fn report_extraction<W: Write>(
 ) -> Result<u8, ToolFault>
     ensures line { Reports (extract_text fault.now ++ 10 ∷ []) (extract_status fault.now) (W.contents (inner_of writer.old))
         (W.contents (inner_of writer.new)) result }
-    ensures faults { CountsReport result (faults_of writer.old) (faults_of writer.new) }
+    ensures faults { Fails (output (faults_of writer.old) (faults_of writer.new) ∷ []) result }
     ensures untouched { IsUntouched is_tool_write result writer.old writer.new }
 {
     let Ok(line) = extract_line(alloc, fault) else {
-        return Err(ToolFault::NoMemory);
+        return Err(ToolFault::Files(FilesFault::NoMemory));
     };
     write_text(writer, line.as_str(), extract_status(fault))
 }
@@ -252,13 +287,13 @@ pub fn report_words<W: Write>(
     writer: &mut Counted<W>,
 ) -> Result<u8, ToolFault>
     ensures line { ReportsWords fault.now (W.contents (inner_of writer.old)) (W.contents (inner_of writer.new)) result }
-    ensures faults { CountsReport result (faults_of writer.old) (faults_of writer.new) }
+    ensures faults { Fails (output (faults_of writer.old) (faults_of writer.new) ∷ []) result }
     ensures untouched { IsUntouched is_tool_write result writer.old writer.new }
 {
     match fault {
         WordsFault::Refused(error) => {
             let Ok(text) = error.to_string(alloc) else {
-                return Err(ToolFault::NoMemory);
+                return Err(ToolFault::Files(FilesFault::NoMemory));
             };
             write_text(writer, text.as_str(), 2)
         }
@@ -268,6 +303,6 @@ pub fn report_words<W: Write>(
         WordsFault::Deadlines => write_text(writer, "refused: deadlines\n", 2),
         WordsFault::Within => write_text(writer, "refused: within\n", 2),
         WordsFault::Twice => write_text(writer, "refused: twice\n", 2),
-        WordsFault::NoMemory => report(alloc, &ToolFault::NoMemory, writer),
+        WordsFault::NoMemory => report(alloc, &ToolFault::Files(FilesFault::NoMemory), writer),
     }
 }

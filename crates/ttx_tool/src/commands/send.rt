@@ -1,17 +1,18 @@
 //! `send`: a cycle again and again, with the time.
 
-ghost use Rattle.std.specs.Prelude.{◌≡◌, IfSome};
+ghost use Rattle.std.specs.Prelude.{◌≡◌, ◌∷◌, [], IfSome};
 ghost use Rattle.ttx_cycle.specs.Counters.{inner_of, faults_of};
 ghost use Rattle.ttx_files.specs.Answers.{IsUntouched};
-ghost use Rattle.ttx_tool.specs.FilesFaults.{is_tool_write};
-ghost use Rattle.ttx_tool.specs.Inspect.{CountsInspect};
+ghost use Rattle.ttx_files.specs.Devices.{AtCycle, input, output};
+ghost use Rattle.ttx_tool.specs.Devices.{is_tool_write, Fails};
 ghost use Rattle.ttx_tool.specs.Send.{first_moment, Sends};
 
 use crate::faults::ToolFault;
 use std::alloc::Global;
 use std::io::{Read, Write};
 use ttx_arguments::Sending;
-use ttx_cycle::{Counted, read_cycle};
+use ttx_cycle::{Counted, WriteFault};
+use ttx_files::{FilesFault, read_packets};
 use ttx_send::Moment;
 
 // When the first field is sent.
@@ -35,18 +36,17 @@ pub fn run<R: Read, W: Write>(
 ) -> Result<(), ToolFault>
     ensures bytes { IfSome (R.remaining (inner_of reader.old))
         (λ bytes. Sends bytes sending.now (W.contents (inner_of writer.old)) (W.contents (inner_of writer.new)) result) }
-    ensures faults { CountsInspect result (faults_of reader.old) (faults_of reader.new) (faults_of writer.old) (faults_of writer.new) }
+    ensures faults { Fails (input AtCycle (R.remaining (inner_of reader.old)) (faults_of reader.old) (faults_of reader.new)
+        ∷ output (faults_of writer.old) (faults_of writer.new) ∷ []) result }
     ensures untouched { IsUntouched is_tool_write result writer.old writer.new }
 {
-    let cycle = match read_cycle(alloc, reader) {
+    let cycle = match read_packets(alloc, reader) {
         Ok(cycle) => cycle,
-        Err(fault) => return Err(ToolFault::Cycle(fault)),
+        Err(fault) => return Err(ToolFault::Files(fault)),
     };
     let (start, lines) = (first_moment(sending), sending.lines.count());
     match ttx_send::send(&cycle, &start, lines, sending.phase, sending.fields, writer) {
         Ok(()) => Ok(()),
-        Err(fault) => Err(ToolFault::Write {
-            written: fault.written,
-        }),
+        Err(WriteFault { written }) => Err(ToolFault::Files(FilesFault::Write { written })),
     }
 }

@@ -1,23 +1,24 @@
 //! `show`: a page as a receiver shows it after some slots of a cycle.
 
-ghost use Rattle.std.specs.Prelude.{◌≡◌, IfSome, IfOk, fold, string_bytes};
+ghost use Rattle.std.specs.Prelude.{◌≡◌, ◌∷◌, [], IfSome, IfOk, fold, string_bytes};
 ghost use Rattle.ttx_cycle.specs.Counters.{inner_of, faults_of};
 ghost use Rattle.ttx_page.specs.Memories.{blank_memory};
 ghost use Rattle.ttx_page.specs.Views.{memory_of};
 ghost use Rattle.ttx_picture.specs.Forms.{picture_of};
 ghost use Rattle.ttx_files.specs.Answers.{IsUntouched};
-ghost use Rattle.ttx_tool.specs.FilesFaults.{is_tool_write};
-ghost use Rattle.ttx_tool.specs.Inspect.{CountsInspect};
+ghost use Rattle.ttx_files.specs.Devices.{AtCycle, input, output};
+ghost use Rattle.ttx_tool.specs.Devices.{is_tool_write, Fails};
 ghost use Rattle.ttx_tool.specs.Receive.{tuned_as, tuned_to, held_by};
 ghost use Rattle.ttx_tool.specs.Show.{no_page_line, shown_text, shown_status, ShowsFile};
 
-use super::writing::write_text;
+use super::reports::write_text;
 use crate::faults::ToolFault;
 use crate::stepping::hear_file;
 use std::alloc::{AllocError, Global};
 use std::io::{Read, Write};
 use ttx_arguments::{Look, ReceiverKind, Tuning};
 use ttx_cycle::Counted;
+use ttx_files::FilesFault;
 use ttx_page::PageMemory;
 use ttx_picture::push_picture;
 use ttx_receiver::{Careful, Cleared, Eager, Receiver};
@@ -69,18 +70,19 @@ fn show_by<R: Read, X: Receiver + Drop, W: Write>(
         (λ bytes. ShowsFile (tuned_as (X.kind receiver) (X.field receiver) (X.tuned receiver))
         (λ sent. X.held (fold X.next receiver sent)) tuning.now.start tuning.now.slots look.now bytes (X.held receiver)
         (W.contents (inner_of writer.old)) (W.contents (inner_of writer.new)) result) }
-    ensures faults { CountsInspect result (faults_of reader.old) (faults_of reader.new) (faults_of writer.old) (faults_of writer.new) }
+    ensures faults { Fails (input AtCycle (R.remaining (inner_of reader.old)) (faults_of reader.old) (faults_of reader.new)
+        ∷ output (faults_of writer.old) (faults_of writer.new) ∷ []) result }
     ensures untouched { IsUntouched is_tool_write result writer.old writer.new }
 {
     let mut receiver = receiver;
     let (start, slots) = (tuning.start, tuning.slots);
     if let Err(fault) = hear_file(alloc, reader, &mut receiver, start, slots) {
-        return Err(ToolFault::Cycle(fault));
+        return Err(ToolFault::Files(fault));
     }
     let memory = receiver.memory();
     match shown_text(alloc, look, memory) {
         Ok(text) => write_text(writer, text.as_str(), shown_status(memory)),
-        Err(_) => Err(ToolFault::NoMemory),
+        Err(_) => Err(ToolFault::Files(FilesFault::NoMemory)),
     }
 }
 
@@ -100,7 +102,8 @@ pub fn run<R: Read, W: Write>(
     ensures bytes { IfSome (R.remaining (inner_of reader.old))
         (λ bytes. ShowsFile (tuned_to tuning.now) (held_by tuning.now) tuning.now.start tuning.now.slots look.now bytes blank_memory
         (W.contents (inner_of writer.old)) (W.contents (inner_of writer.new)) result) }
-    ensures faults { CountsInspect result (faults_of reader.old) (faults_of reader.new) (faults_of writer.old) (faults_of writer.new) }
+    ensures faults { Fails (input AtCycle (R.remaining (inner_of reader.old)) (faults_of reader.old) (faults_of reader.new)
+        ∷ output (faults_of writer.old) (faults_of writer.new) ∷ []) result }
     ensures untouched { IsUntouched is_tool_write result writer.old writer.new }
 {
     let (selection, lines, blank) = (tuning.selection, tuning.lines.count(), PageMemory::blank());

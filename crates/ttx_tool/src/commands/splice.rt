@@ -4,9 +4,9 @@ ghost use Rattle.std.specs.Prelude.{◌≡◌, ◌∷◌, []};
 ghost use Rattle.ttx_cycle.specs.Counters.{inner_of, faults_of};
 ghost use Rattle.ttx_files.specs.Answers.{IsUntouched};
 ghost use Rattle.ttx_proof.specs.SplicingFiles.{SplicesFiles};
-ghost use Rattle.ttx_files.specs.Devices.{AtCycle, AtService, AtCertificate, input, output, failed_at, IsFirstFailure};
-ghost use Rattle.ttx_tool.specs.Answers.{splice_status, splice_answer, IsAnswered};
-ghost use Rattle.ttx_tool.specs.FilesFaults.{is_tool_write};
+ghost use Rattle.ttx_files.specs.Devices.{AtCycle, AtService, AtCertificate, input, output, IsFirstFailure};
+ghost use Rattle.ttx_tool.specs.Answers.{splice_status, IsAnswered};
+ghost use Rattle.ttx_tool.specs.Devices.{is_tool_write, failed_at};
 
 use crate::faults::ToolFault;
 use std::alloc::Global;
@@ -38,17 +38,17 @@ pub fn run<A: Read, B: Read, C: Read, D: Read, E: Read, F: Read, W: Write>(
     new_certificate: &mut Counted<F>,
     writer: &mut Counted<W>,
 ) -> Result<u8, ToolFault>
-    ensures bytes { IsAnswered splice_answer (SplicesFiles (A.remaining (inner_of old.old)) (B.remaining (inner_of new.old))
+    ensures bytes { IsAnswered splice_status (SplicesFiles (A.remaining (inner_of old.old)) (B.remaining (inner_of new.old))
         (C.remaining (inner_of old_service.old)) (D.remaining (inner_of new_service.old)) (E.remaining (inner_of old_certificate.old))
         (F.remaining (inner_of new_certificate.old)) (W.contents (inner_of writer.old)) (W.contents (inner_of writer.new))) result }
-    ensures faults { IsAnswered splice_answer (λ answer. IsFirstFailure
+    ensures faults { IsFirstFailure
         (input AtCycle (A.remaining (inner_of old.old)) (faults_of old.old) (faults_of old.new)
         ∷ input AtCycle (B.remaining (inner_of new.old)) (faults_of new.old) (faults_of new.new)
         ∷ input AtService (C.remaining (inner_of old_service.old)) (faults_of old_service.old) (faults_of old_service.new)
         ∷ input AtService (D.remaining (inner_of new_service.old)) (faults_of new_service.old) (faults_of new_service.new)
         ∷ input AtCertificate (E.remaining (inner_of old_certificate.old)) (faults_of old_certificate.old) (faults_of old_certificate.new)
         ∷ input AtCertificate (F.remaining (inner_of new_certificate.old)) (faults_of new_certificate.old) (faults_of new_certificate.new)
-        ∷ output (faults_of writer.old) (faults_of writer.new) ∷ []) (failed_at answer)) result }
+        ∷ output (faults_of writer.old) (faults_of writer.new) ∷ []) (failed_at result) }
     ensures untouched { IsUntouched is_tool_write result writer.old writer.new }
 {
     match splice_files(
@@ -62,6 +62,6 @@ pub fn run<A: Read, B: Read, C: Read, D: Read, E: Read, F: Read, W: Write>(
         writer,
     ) {
         Ok(verdict) => Ok(splice_status(verdict)),
-        Err(fault) => Err(ToolFault::from_files(fault)),
+        Err(fault) => Err(ToolFault::Files(fault)),
     }
 }

@@ -1,12 +1,15 @@
 //! `version`: which program this is.
 
+ghost use Rattle.std.specs.Prelude.{◌∷◌, []};
 ghost use Rattle.ttx_cycle.specs.Counters.{inner_of, faults_of};
-ghost use Rattle.ttx_tool.specs.Reports.{CountsReport};
+ghost use Rattle.ttx_files.specs.Devices.{output};
+ghost use Rattle.ttx_tool.specs.Devices.{Fails};
 ghost use Rattle.ttx_tool.specs.Version.{version_text, TellsVersion};
 
 use crate::faults::ToolFault;
 use std::io::Write;
-use ttx_cycle::{Counted, write_bytes};
+use ttx_cycle::Counted;
+use ttx_files::write_line;
 
 // What `rt version` says of the kit and the logic by which the program is proved stands behind its own version.
 const VERSION: &str = "ttx 1.0.0\nkit rattle-kit-13f\nlogic dac8208d650f15bf\n";
@@ -14,12 +17,10 @@ const VERSION: &str = "ttx 1.0.0\nkit rattle-kit-13f\nlogic dac8208d650f15bf\n";
 /// Writes the version of the program, and the kit and the logic by which it is proved.
 pub fn run<W: Write>(writer: &mut Counted<W>) -> Result<(), ToolFault>
     ensures bytes { TellsVersion version_text (W.contents (inner_of writer.old)) (W.contents (inner_of writer.new)) result }
-    ensures faults { CountsReport result (faults_of writer.old) (faults_of writer.new) }
+    ensures faults { Fails (output (faults_of writer.old) (faults_of writer.new) ∷ []) result }
 {
-    match write_bytes(writer, VERSION.as_bytes()) {
+    match write_line(writer, VERSION.as_bytes()) {
         Ok(()) => Ok(()),
-        Err(fault) => Err(ToolFault::Write {
-            written: fault.written,
-        }),
+        Err(fault) => Err(ToolFault::Files(fault)),
     }
 }

@@ -1,20 +1,21 @@
 //! `wait`: how long viewers of each page of a service wait, beside what it promises.
 
-ghost use Rattle.std.specs.Prelude.{◌≡◌, ◌≤◌, length, map, IfSome, IfOk, string_bytes};
+ghost use Rattle.std.specs.Prelude.{◌≡◌, ◌≤◌, ◌∷◌, [], length, map, IfSome, IfOk, string_bytes};
 ghost use Rattle.ttx_cycle.specs.Counters.{inner_of, faults_of};
 ghost use Rattle.ttx_cycle.specs.Cycles.{slots_of};
 ghost use Rattle.ttx_files.specs.Answers.{IsUntouched};
-ghost use Rattle.ttx_tool.specs.FilesFaults.{is_tool_write};
-ghost use Rattle.ttx_tool.specs.Find.{CountsInputs};
+ghost use Rattle.ttx_files.specs.Devices.{AtCycle, AtService, input, output};
+ghost use Rattle.ttx_tool.specs.Devices.{is_tool_write, Fails, Reads};
 ghost use Rattle.ttx_source.specs.PromiseViews.{promise_view};
-ghost use Rattle.ttx_tool.specs.Wait.{wait_status, shows_promises, IsWaitOf, IsPromisedWaitOf, IsWaitBeside, WaitsText, Waits, CountsWait};
+ghost use Rattle.ttx_tool.specs.Wait.{wait_status, shows_promises, IsWaitOf, IsPromisedWaitOf, IsWaitBeside, WaitsText, Waits};
 
 use super::promised::{Promised, read_promised_inputs};
-use super::writing::{Told, write_text};
+use super::reports::write_text;
 use crate::faults::ToolFault;
 use std::alloc::Global;
 use std::io::{Read, Write};
 use ttx_cycle::{Counted, Cycle};
+use ttx_files::{FilesFault, Told};
 use ttx_page::Class;
 use ttx_promise::report_promises;
 use ttx_source::Service;
@@ -44,11 +45,11 @@ fn tell(
     cycle: &Cycle,
     service: &Service,
     question: Question,
-) -> Result<Told, NoMemory>
+) -> Result<Told<u8>, NoMemory>
     requires some { 1 ≤ question.repeat }
     requires few { question.repeat ≤ 8 }
     ensures { IfOk result (λ told. IsWaitOf (slots_of cycle.now) service.now question.repeat question.class question.detail
-        (string_bytes told.text) told.status) }
+        (string_bytes told.line) told.verdict) }
 {
     let report = report_with(
         alloc,
@@ -61,8 +62,8 @@ fn tell(
     )?;
     let status = wait_status(report.deadline);
     Ok(Told {
-        text: report.text,
-        status,
+        verdict: status,
+        line: report.text,
     })
 }
 
@@ -82,11 +83,11 @@ fn tell_promised(
     cycle: &Cycle,
     promised: &Promised,
     question: Question,
-) -> Result<Told, NoMemory>
+) -> Result<Told<u8>, NoMemory>
     requires some { 1 ≤ question.repeat }
     requires few { question.repeat ≤ 8 }
     ensures { IfOk result (λ told. IsPromisedWaitOf (slots_of cycle.now) promised.now.service (map promise_view promised.now.promises.items)
-        question.repeat question.class (string_bytes told.text) told.status) }
+        question.repeat question.class (string_bytes told.line) told.verdict) }
 {
     let report = report_promises(
         alloc,
@@ -102,8 +103,8 @@ fn tell_promised(
         wait_status(report.deadline)
     };
     Ok(Told {
-        text: report.text,
-        status,
+        verdict: status,
+        line: report.text,
     })
 }
 
@@ -113,12 +114,12 @@ fn tell_beside(
     cycle: &Cycle,
     promised: &Promised,
     question: Question,
-) -> Result<Told, NoMemory>
+) -> Result<Told<u8>, NoMemory>
     requires some { 1 ≤ question.repeat }
     requires few { question.repeat ≤ 8 }
     ensures { IfOk result (λ told. IsWaitBeside (shows_promises (length promised.now.promises.items) question.detail) (slots_of cycle.now)
         promised.now.service (map promise_view promised.now.promises.items) question.repeat question.class question.detail
-        (string_bytes told.text) told.status) }
+        (string_bytes told.line) told.verdict) }
 {
     if shows_promises(promised.promises.len(), question.detail) {
         tell_promised(alloc, cycle, promised, question)
@@ -133,12 +134,13 @@ fn wait_text<A: Read, B: Read>(
     cycle: &mut Counted<A>,
     service: &mut Counted<B>,
     question: Question,
-) -> Result<Told, ToolFault>
+) -> Result<Told<u8>, ToolFault>
     requires some { 1 ≤ question.repeat }
     requires few { question.repeat ≤ 8 }
     ensures bytes { IfSome (A.remaining (inner_of cycle.old))
         (λ a. IfSome (B.remaining (inner_of service.old)) (λ b. WaitsText a b question.repeat question.class question.detail result)) }
-    ensures faults { CountsInputs result (faults_of cycle.old) (faults_of cycle.new) (faults_of service.old) (faults_of service.new) }
+    ensures faults { Reads (input AtCycle (A.remaining (inner_of cycle.old)) (faults_of cycle.old) (faults_of cycle.new)
+        ∷ input AtService (B.remaining (inner_of service.old)) (faults_of service.old) (faults_of service.new) ∷ []) result }
 {
     let inputs = match read_promised_inputs(alloc, cycle, service) {
         Ok(inputs) => inputs,
@@ -146,7 +148,7 @@ fn wait_text<A: Read, B: Read>(
     };
     match tell_beside(alloc, &inputs.cycle, &inputs.promised, question) {
         Ok(told) => Ok(told),
-        Err(_) => Err(ToolFault::NoMemory),
+        Err(_) => Err(ToolFault::Files(FilesFault::NoMemory)),
     }
 }
 
@@ -170,8 +172,9 @@ pub fn run<A: Read, B: Read, W: Write>(
     requires few { repeat ≤ 8 }
     ensures bytes { IfSome (A.remaining (inner_of cycle.old)) (λ a. IfSome (B.remaining (inner_of service.old)) (λ b. Waits a b repeat class detail
         (W.contents (inner_of writer.old)) (W.contents (inner_of writer.new)) result)) }
-    ensures faults { CountsWait result (faults_of cycle.old) (faults_of cycle.new) (faults_of service.old) (faults_of service.new)
-        (faults_of writer.old) (faults_of writer.new) }
+    ensures faults { Fails (input AtCycle (A.remaining (inner_of cycle.old)) (faults_of cycle.old) (faults_of cycle.new)
+        ∷ input AtService (B.remaining (inner_of service.old)) (faults_of service.old) (faults_of service.new)
+        ∷ output (faults_of writer.old) (faults_of writer.new) ∷ []) result }
     ensures untouched { IsUntouched is_tool_write result writer.old writer.new }
 {
     let question = Question {
@@ -183,5 +186,5 @@ pub fn run<A: Read, B: Read, W: Write>(
         Ok(told) => told,
         Err(fault) => return Err(fault),
     };
-    write_text(writer, told.text.as_str(), told.status)
+    write_text(writer, told.line.as_str(), told.verdict)
 }

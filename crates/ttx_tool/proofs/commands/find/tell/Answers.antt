@@ -32,7 +32,7 @@ returns-in-Some c =
       fields = (c.certificates_keep_their_rules.ensures c.in_ok-found.found.certificate).0;
       deadline = c.in_ok-found.found.deadline;
       found = c.in_ok-found.ensures;
-      told = subst (λ d. TellsFound (slots_of c.args.cycle.now) c.args.service.now w d t.file.items (string_bytes t.line) t.status)
+      told = subst (λ d. TellsFound (slots_of c.args.cycle.now) c.args.service.now w d t.file.items (string_bytes t.line) t.verdict)
           (sym c.in-Some.is) (record { written = h; most = subst (λ xs. length xs ≤ most_bytes) (sym h.0) short; seen = seen });
     }) c.tell_deadline.ensures
 
@@ -49,5 +49,5 @@ returns c =
       fields = (c.certificates_keep_their_rules.ensures c.in_ok-found.found.certificate).0;
       deadline = None;
       found = found;
-      told = says_no slots service c.args.repeat c.args.class w is found t.file.items (string_bytes t.line) t.status h;
+      told = says_no slots service c.args.repeat c.args.class w is found t.file.items (string_bytes t.line) t.verdict h;
     }) c.tell_verdict.ensures

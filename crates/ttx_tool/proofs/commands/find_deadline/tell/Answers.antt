@@ -12,6 +12,6 @@ returns-in-Ok-tell_verdict c =
       verdict = found.verdict;
       found = c.in-Ok.ensures;
       told = subst
-          (λ n. TellsAsked (fields_of found.certificate) c.args.asked.deadline n found.verdict told.file.items (string_bytes told.line) told.status)
+          (λ n. TellsAsked (fields_of found.certificate) c.args.asked.deadline n found.verdict told.file.items (string_bytes told.line) told.verdict)
           c.pages-pages.ensures.count c.in-Ok-tell_verdict.ensures;
     }

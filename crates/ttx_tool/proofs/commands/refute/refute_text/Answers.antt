@@ -1,21 +1,29 @@
-use Rattle.std.proofs.Common.{string_bytes}
+use Rattle.std.proofs.Common.{[], ◌∷◌, string_bytes}
 use Rattle.ttx_cycle.specs.Counters.{inner_of}
 use Rattle.ttx_cycle.specs.Cycles.{slots_of}
+use Rattle.ttx_cycle.specs.Files.{IsPacketFile}
+use Rattle.ttx_files.proofs.KnownFiles.{known}
+use Rattle.ttx_files.specs.Known.{first, second, third}
+use Rattle.ttx_files.specs.Texts.{IsServiceText, IsCertificateText}
 use Rattle.ttx_witness.specs.Certificates.{fields_of}
-use Rattle.ttx_tool.proofs.ThreeInputs.{refuting_of}
-use Rattle.ttx_files.specs.declared.readers.Inputs.{Inputs}
-use Rattle.ttx_tool.proofs.FailedDevices.{counts_three}
-use Rattle.ttx_tool.specs.declared.commands.refute.Told.{Told}
+use Rattle.ttx_tool.specs.Refute.{IsRefutingFiles}
 use Rattle.ttx_tool.proofs.commands.refute.refute_text.Goals as goal
 
 pub returns-in-Ok-tell-clause-bytes : goal.returns-in-Ok-tell-clause-bytes
 returns-in-Ok-tell-clause-bytes g c =
     let told = c.in-Ok-tell.told in
-    refuting_of (slots_of c.in-Ok.inputs.cycle) c.in-Ok.inputs.service (fields_of c.in-Ok.inputs.certificate)
-    (g.A.Read.remaining (inner_of c.args.cycle.now))
-    (g.B.Read.remaining (inner_of c.args.service.now)) (g.C.Read.remaining (inner_of c.args.certificate.now)) c.args.save told.file.items
-    (string_bytes told.line) told.status c.in-Ok-tell.ensures.told c.in-Ok.ensures.bytes
-
-pub returns-in-Err-clause-faults : goal.returns-in-Err-clause-faults
-returns-in-Err-clause-faults g c =
-    counts_three Inputs Told _ _ _ _ _ _ _ _ _ c.in-Err.fault _ c.from_files.ensures c.in-Err.ensures.faults
+    let inputs = c.in-Ok.inputs in
+    let w = fields_of inputs.certificate in
+    known (g.A.Read.remaining (inner_of c.args.cycle.now) ∷ g.B.Read.remaining (inner_of c.args.service.now)
+    ∷ g.C.Read.remaining (inner_of c.args.certificate.now) ∷ [])
+    (λ xs. IsPacketFile (first xs) (slots_of inputs.cycle) × IsServiceText (second xs) inputs.service × IsCertificateText (third xs) w)
+    (λ xs. IsRefutingFiles (first xs) (second xs) (third xs) c.args.save told.file.items (string_bytes told.line) told.verdict)
+    (λ xs is. record {
+      slots = slots_of inputs.cycle;
+      service = inputs.service;
+      w = w;
+      cycle_is = is.0;
+      service_is = is.1;
+      certificate_is = is.2;
+      told = c.in-Ok-tell.ensures.told;
+    }) c.in-Ok.ensures.bytes

@@ -28,10 +28,10 @@ returns-in-Some c =
     let run = counter_run_of c.args.counter.now in
     let m = memory_of c.in-Some.memory in
     let told = subst (TellsReplayed memory_of slots pages run) c.in-Some.is c.in_ok-held.ensures in
-    both_of (λ t. (p : definitions.Page) → slice_get pages run.page ≡ Some p → string_bytes t.text ≡ replay_text p run m) (λ t. t.status ≡ 0)
-    (λ t. IsReplay slots (pages_of c.args.service.now) run (string_bytes t.text) t.status)
+    both_of (λ t. (p : definitions.Page) → slice_get pages run.page ≡ Some p → string_bytes t.line ≡ replay_text p run m) (λ t. t.verdict ≡ 0)
+    (λ t. IsReplay slots (pages_of c.args.service.now) run (string_bytes t.line) t.verdict)
     c.tell_shown.result
-    (λ t text status. subst (λ q. IsReplay slots q run (string_bytes t.text) t.status) c.pages-pages.ensures.value
+    (λ t text status. subst (λ q. IsReplay slots q run (string_bytes t.line) t.verdict) c.pages-pages.ensures.value
     (inl (record { memory = m; replayed = told; same = text told.is.page told.is.here }, status)))
     c.tell_shown.ensures.text c.tell_shown.ensures.status
 
@@ -41,8 +41,8 @@ returns-in-None c =
     let pages = map page_of c.pages-pages.result.now in
     let run = counter_run_of c.args.counter.now in
     let none = subst (TellsReplayed memory_of slots pages run) c.in-None.is c.in_ok-held.ensures in
-    both_of (λ t. string_bytes t.text ≡ none_text) (λ t. t.status ≡ 1)
-    (λ t. IsReplay slots (pages_of c.args.service.now) run (string_bytes t.text) t.status)
+    both_of (λ t. string_bytes t.line ≡ none_text) (λ t. t.verdict ≡ 1)
+    (λ t. IsReplay slots (pages_of c.args.service.now) run (string_bytes t.line) t.verdict)
     c.tell_none.result
-    (λ t text status. subst (λ q. IsReplay slots q run (string_bytes t.text) t.status) c.pages-pages.ensures.value (inr (none, text, status)))
+    (λ t text status. subst (λ q. IsReplay slots q run (string_bytes t.line) t.verdict) c.pages-pages.ensures.value (inr (none, text, status)))
     c.tell_none.ensures.text c.tell_none.ensures.status

@@ -1,8 +1,9 @@
 use Rattle.std.proofs.Common.{string_bytes}
 use Rattle.std.specs.Prelude.{fold}
+use Rattle.std.proofs.lemmas.Option.{IfSome_then}
 use Rattle.ttx_cycle.specs.Counters.{inner_of}
 use Rattle.ttx_page.specs.Views.{memory_of}
-use Rattle.ttx_tool.proofs.ShownFile.{shows_of, shows_nothing}
+use Rattle.ttx_tool.proofs.ShownFile.{shows_of, shows_nothing, heard_fault}
 use Rattle.ttx_tool.specs.Receive.{tuned_as}
 use Rattle.ttx_tool.proofs.commands.show.show_by.Goals as goal
 
@@ -22,3 +23,11 @@ returns-clause-bytes g c =
     (λ sent. g.X.Receiver.held (fold g.X.Receiver.next c.args.receiver sent))
     c.args.tuning.now.start c.args.tuning.now.slots c.args.look.now (g.X.Receiver.held c.args.receiver)
     (g.X.Receiver.held c.args.receiver) (g.W.Write.contents (inner_of c.args.writer.now)) (g.R.Read.remaining (inner_of c.args.reader.now))
+
+pub returns-in-Err-clause-bytes : goal.returns-in-Err-clause-bytes
+returns-in-Err-clause-bytes g c =
+    IfSome_then (g.R.Read.remaining (inner_of c.args.reader.now)) c.in-Err.ensures.bytes
+    (heard_fault (tuned_as (g.X.Receiver.kind c.args.receiver) (g.X.Receiver.field c.args.receiver) (g.X.Receiver.tuned c.args.receiver))
+    (λ sent. g.X.Receiver.held (fold g.X.Receiver.next c.args.receiver sent))
+    c.args.tuning.now.start c.args.tuning.now.slots c.args.look.now (g.X.Receiver.held c.args.receiver)
+    (g.X.Receiver.held c.hear_file.new.receiver) (g.W.Write.contents (inner_of c.args.writer.now)) c.in-Err.fault)

@@ -1,0 +1,17 @@
+-- The devices of a command that reads its inputs, of which one is refused.
+use Rattle.std.proofs.Common.{List, [], ◌∷◌, ◌++◌, map, Option, Some, None, inl, inr}
+use Rattle.ttx_files.proofs.Failures.{stopped}
+use Rattle.ttx_files.specs.Devices.{Place, Device, IsAmong, IsFirstFailure}
+use Rattle.ttx_tool.specs.Devices.{failed_in, place_of, IsFaultOf}
+use Rattle.ttx_tool.specs.declared.faults.ToolFault.{ToolFault}
+
+module _ (es : List Device) where
+  among_first : (ds : List Device) (place : Option Place) → IsAmong (map (λ d. d.place) ds) place → IsAmong (map (λ d. d.place) (ds ++ es)) place
+  among_first ds None h = tt
+  among_first [] (Some place) h = absurd h
+  among_first (d ∷ ds) (Some place) (inl h) = inl h
+  among_first (d ∷ ds) (Some place) (inr h) = inr (among_first ds (Some place) h)
+
+-- the devices after the fault were not called
+pub refused : (ds es : List Device) (fault : ToolFault) → IsFaultOf ds fault → IsFirstFailure es None → IsFaultOf (ds ++ es) fault
+refused ds es fault h e = (stopped ds es (failed_in fault) h.0 e, among_first es ds (place_of fault) h.1)

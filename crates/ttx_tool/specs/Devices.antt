@@ -1,0 +1,43 @@
+-- Faults of commands, and the devices that they are of.
+--
+--   is_tool_write           the fault of a write, which alone leaves a writer otherwise than it was
+--   failed_in, place_of     the place of which a fault says that its device failed, and that of the file which it is of
+--   failed_at               the same of an answer
+--   IsFaultOf               a fault is of a file of one of these devices; that of a device is of the first that failed
+--   Fails, Reads            a command's faults are of its devices; those of inputs, which are as they should be if all are read
+use Rattle.std.specs.Prelude.{Bool, false, List, map, ⊤, Option, Some, None, Result, Ok, Err}
+use Rattle.ttx_files.specs.Answers.{is_write}
+use Rattle.ttx_files.specs.Devices as files
+use Rattle.ttx_files.specs.Devices.{Place, AtCounter, Device, AllRight, IsAmong, IsFirstFailure}
+use Rattle.ttx_tool.specs.declared.faults.CounterFileFault.TheVariants as counter
+use Rattle.ttx_tool.specs.declared.faults.ToolFault.{ToolFault}
+use Rattle.ttx_tool.specs.declared.faults.ToolFault.TheVariants.{Files, Counter}
+
+abbrev pub is_tool_write : ToolFault → Bool
+is_tool_write (Files fault) = is_write fault
+is_tool_write _ = false
+
+abbrev pub failed_in : ToolFault → Option Place
+failed_in (Files fault) = files.failed_at {T = ⊤} (Err fault)
+failed_in (Counter counter.Read) = Some AtCounter
+failed_in _ = None
+
+abbrev pub place_of : ToolFault → Option Place
+place_of (Files fault) = files.place_of fault
+place_of (Counter fault) = Some AtCounter
+place_of _ = None
+
+abbrev pub failed_at : {T : Type 0} → Result T ToolFault → Option Place
+failed_at (Ok _) = None
+failed_at (Err fault) = failed_in fault
+
+abbrev pub IsFaultOf : List Device → ToolFault → Type 0
+IsFaultOf devices fault = IsFirstFailure devices (failed_in fault) × IsAmong (map (λ d. d.place) devices) (place_of fault)
+
+abbrev pub Fails : {T : Type 0} → List Device → Result T ToolFault → Type 0
+Fails devices (Ok _) = IsFirstFailure devices None
+Fails devices (Err fault) = IsFaultOf devices fault
+
+abbrev pub Reads : {T : Type 0} → List Device → Result T ToolFault → Type 0
+Reads devices (Ok _) = IsFirstFailure devices None × AllRight devices
+Reads devices (Err fault) = IsFaultOf devices fault
