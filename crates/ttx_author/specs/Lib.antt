@@ -1,0 +1,5 @@
+pub mod Options
+pub mod Signs
+pub mod Tags
+pub mod Marks
+pub mod Rows

@@ -1,0 +1,14 @@
+-- The national options and their numbers, 4*C12 + 2*C13 + C14 (EN 300 706, 9.3.1.3).
+use Rattle.std.specs.Prelude.{ℕ}
+use Rattle.ttx_author.specs.declared.options.NationalOption.{NationalOption}
+use Rattle.ttx_author.specs.declared.options.NationalOption.TheVariants.{English, German, Swedish, Italian, French, Spanish, Czech, Seventh}
+
+abbrev pub option_number : NationalOption → ℕ
+option_number English = 0
+option_number German = 1
+option_number Swedish = 2
+option_number Italian = 3
+option_number French = 4
+option_number Spanish = 5
+option_number Czech = 6
+option_number Seventh = 7

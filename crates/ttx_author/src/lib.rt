@@ -1,0 +1,13 @@
+//! Pages as authors write them: characters as they are seen, control codes by their names in braces.
+#![tactic(auto)]
+
+mod marks;
+mod options;
+mod rows;
+mod signs;
+mod tags;
+
+pub use options::NationalOption;
+pub use rows::{Lack, Why, head_of, row_of};
+pub use signs::{code_of, has_character, sign};
+pub use tags::{Tag, tag_of};
