@@ -3,3 +3,4 @@ pub mod Signs
 pub mod Tags
 pub mod Marks
 pub mod Rows
+pub mod Seen

@@ -1,6 +1,7 @@
 //! Pages as authors write them: characters as they are seen, control codes by their names in braces.
 #![tactic(auto)]
 
+pub mod laws;
 mod marks;
 mod options;
 mod rows;
