@@ -5,3 +5,6 @@ pub mod Codes
 pub mod Written
 pub mod OwnCells
 pub mod Seen
+pub mod Standing
+pub mod Braces
+pub mod Inverse

@@ -4,3 +4,4 @@ pub mod Tags
 pub mod Marks
 pub mod Rows
 pub mod Seen
+pub mod Texts

@@ -7,8 +7,10 @@ mod options;
 mod rows;
 mod signs;
 mod tags;
+mod texts;
 
 pub use options::NationalOption;
 pub use rows::{Lack, Why, head_of, row_of};
 pub use signs::{code_of, has_character, sign};
 pub use tags::{Tag, tag_of};
+pub use texts::text_of;

@@ -37,7 +37,7 @@ pub struct Lack {
 
 // Whether mosaic mode is on after a code.
 #[tactic(auto, unfolding(ttx_render::specs::Spacing::spacing_of))]
-fn mode_after(code: u8, mosaic: bool) -> bool
+pub(crate) fn mode_after(code: u8, mosaic: bool) -> bool
     ensures { result ≡ rule.mode_after code mosaic }
 {
     match code {

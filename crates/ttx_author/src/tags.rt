@@ -1,6 +1,6 @@
 //! The names of control codes.
 
-ghost use Rattle.std.specs.Prelude.{◌≡◌, ◌<◌, ◌≤◌, IfSome, map};
+ghost use Rattle.std.specs.Prelude.{◌≡◌, ◌<◌, ◌≤◌, [], IfSome, map, slice_index_or, length};
 ghost use Rattle.std.specs.List.{position};
 ghost use Rattle.std.specs.Str.{bytes_eq};
 ghost use Rattle.ttx_author.specs.Tags as rule;
@@ -19,6 +19,21 @@ static NAMES: [&str; 34] = [
     "mosaic white", "conceal", "contiguous", "separated", "1B", "black background", "new background", "hold", "release",
     "/box", "box",
 ];
+
+fn nth_name<'a>(names: &[&'a str], index: usize) -> &'a str
+    requires { index < length names.now }
+    ensures { result.now ≡ slice_index_or (map (λ name. name.now) names.now) index [] }
+{
+    names[index]
+}
+
+/// The name at an index: that of a code, 00 to 1F, of a box's end (32) or of its begin (33).
+pub(crate) fn name_at(index: usize) -> &'static str
+    requires { index < 34 }
+    ensures { result.now ≡ slice_index_or rule.names index [] }
+{
+    nth_name(NAMES.as_slice(), index)
+}
 
 // Whether characters are those of a name in ASCII.
 fn is_named(known: &str, name: &[char]) -> bool
