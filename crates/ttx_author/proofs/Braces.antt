@@ -78,7 +78,7 @@ piece_of-name index tail inside =
     let begun : (slice_index (name_at index ++ 0x7d ∷ tail) 0 == 0x7b) ≡ false = ap (λ c. c == 0x7b) first ∙ good.begun in
     rw begun
     (ap (braced (name_at index ++ 0x7d ∷ tail)) (closing-at (name_at index) tail good.closed)
-      ∙ ap (tagged (length (name_at index))) (ap tag_of (take_at (name_at index) (0x7d ∷ tail) (length (name_at index)) refl) ∙ tag_of-name index inside))
+    ∙ ap (tagged (length (name_at index))) (ap tag_of (take_at (name_at index) (0x7d ∷ tail) (length (name_at index)) refl) ∙ tag_of-name index inside))
 
 -- its marks
 pub marks_from-name : (place index : ℕ) (tail : List ℕ) → index < 34 → (next : ℕ) × (marks_from 0 place (in_braces (slice_index_or names index []) ++ tail)
@@ -91,13 +91,14 @@ marks_from-name place index tail inside =
     let size : (piece_of text).size ≡ length name + 2 = ap (λ (p : Piece). p.size) is in
     let longer : length name + 2 ≡ suc (length name + 1) = omega arith in
     let rest : drop (length name + 2) text ≡ tail =
-        ap (λ n. drop n text) longer ∙ ap (drop (length name + 1)) (sym (append_assoc name (0x7d ∷ []) tail))
-        ∙ drop_at (name ++ 0x7d ∷ []) tail (length name + 1) (omega (arith, length-append name (0x7d ∷ []))) in
-    (place + (length name + 2),
+    ap (λ n. drop n text) longer ∙ ap (drop (length name + 1)) (sym (append_assoc name (0x7d ∷ []) tail))
+    ∙ drop_at (name ++ 0x7d ∷ []) tail (length name + 1) (omega (arith, length-append name (0x7d ∷ []))) in (
+      place + (length name + 2),
       ap (marks_from 0 place) whole
-      ∙ marks_from-piece place text (omega arith) (omega arith)
-      ∙ ap (λ (p : Piece). replicate p.cells (placed place p.mark) ++ marks_from 0 (place + p.size) (drop p.size text)) is
-      ∙ ap (λ xs. replicate (tag_at index).cells (placed place (Control (tag_at index).code)) ++ marks_from 0 (place + (length name + 2)) xs) rest)
+          ∙ marks_from-piece place text (omega arith) (omega arith)
+          ∙ ap (λ (p : Piece). replicate p.cells (placed place p.mark) ++ marks_from 0 (place + p.size) (drop p.size text)) is
+          ∙ ap (λ xs. replicate (tag_at index).cells (placed place (Control (tag_at index).code)) ++ marks_from 0 (place + (length name + 2)) xs) rest,
+    )
 
 -- the mark of a character that is no brace
 pub marks_from-character : (place c : ℕ) (tail : List ℕ) → (c == 0x7b) ≡ false → marks_from 0 place (c ∷ tail) ≡ placed place (Sign c) ∷ marks_from 0 (place + 1) tail

@@ -38,18 +38,20 @@ one-means option place room mosaic code tail o high =
           let single : nat_lt code 32 ≡ true = control in
           let found = marks_from-name place code tail (omega arith) in
           let marks : marks_from 0 place (in_braces (slice_index_or names code []) ++ tail) ≡ placed place (Control code) ∷ marks_from 0 found.0 tail =
-              found.1 ∙ rw single refl in
-          (found.0,
+          found.1 ∙ rw single refl in (
+            found.0,
             rw control
-            (ap (codes_of option mosaic (suc room)) marks
-            ∙ first-code option room mosaic (placed place (Control code)) (marks_from 0 found.0 tail) code refl))
+                (ap (codes_of option mosaic (suc room)) marks
+                ∙ first-code option room mosaic (placed place (Control code)) (marks_from 0 found.0 tail) code refl),
+          )
       | inr printed ↦
-          let stands = sign-stands mosaic option code o (ltb-false code 0x20 printed) high in
-          (place + 1,
+          let stands = sign-stands mosaic option code o (ltb-false code 0x20 printed) high in (
+            place + 1,
             rw printed
-            (ap (codes_of option mosaic (suc room)) (marks_from-character place (sign mosaic option code) tail stands.1)
-            ∙ first-code option room mosaic (placed place (Sign (sign mosaic option code))) (marks_from 0 (place + 1) tail) code
-              (ap (rows.shown_by (rows.lack_at place (rows.why_not option mosaic (sign mosaic option code)))) stands.0)))
+                (ap (codes_of option mosaic (suc room)) (marks_from-character place (sign mosaic option code) tail stands.1)
+                ∙ first-code option room mosaic (placed place (Sign (sign mosaic option code))) (marks_from 0 (place + 1) tail) code
+                (ap (rows.shown_by (rows.lack_at place (rows.why_not option mosaic (sign mosaic option code)))) stands.0)),
+          )
     ]
 
 -- the two codes of a box
@@ -80,25 +82,27 @@ box-means option place room mosaic code tail box =
     let m = placed place (Control code) in
     let rest = marks_from 0 found.0 tail in
     let marks : marks_from 0 place (in_braces (slice_index_or names (code + 22) []) ++ tail) ≡ m ∷ (m ∷ rest) =
-        found.1
-        ∙ ap (λ n. replicate n (placed place (Control (tag_at (code + 22)).code)) ++ rest) at.1
-        ∙ ap (λ k. replicate 2 (placed place (Control k)) ++ rest) at.0 in
-    (found.0,
+    found.1
+    ∙ ap (λ n. replicate n (placed place (Control (tag_at (code + 22)).code)) ++ rest) at.1
+    ∙ ap (λ k. replicate 2 (placed place (Control k)) ++ rest) at.0 in (
+      found.0,
       ap (codes_of option mosaic (suc (suc room))) marks
-      ∙ first-code option (suc room) mosaic m (m ∷ rest) code refl
-      ∙ ap (λ mode. codes_of option mode (suc room) (m ∷ rest) >>= (λ codes. Ok (code ∷ codes))) (box-mode code mosaic box)
-      ∙ ap (λ outcome. outcome >>= (λ codes. Ok (code ∷ codes))) (first-code option room mosaic m rest code refl)
-      ∙ ap (λ mode. (codes_of option mode room rest >>= (λ codes. Ok (code ∷ codes))) >>= (λ codes. Ok (code ∷ codes))) (box-mode code mosaic box)
-      ∙ put-two code (codes_of option mosaic room rest))
+          ∙ first-code option (suc room) mosaic m (m ∷ rest) code refl
+          ∙ ap (λ mode. codes_of option mode (suc room) (m ∷ rest) >>= (λ codes. Ok (code ∷ codes))) (box-mode code mosaic box)
+          ∙ ap (λ outcome. outcome >>= (λ codes. Ok (code ∷ codes))) (first-code option room mosaic m rest code refl)
+          ∙ ap (λ mode. (codes_of option mode room rest >>= (λ codes. Ok (code ∷ codes))) >>= (λ codes. Ok (code ∷ codes))) (box-mode code mosaic box)
+          ∙ put-two code (codes_of option mosaic room rest),
+    )
 
 box-codes : (code next : ℕ) → is_box code next ≡ true → (next ≡ code) × ((code ≡ 0x0a) ⊎ (code ≡ 0x0b))
 box-codes code next e =
-    let parts = and_parts (code == next) (code == 0x0a || code == 0x0b) e in
-    (sym (eqb-true code next parts.0),
+    let parts = and_parts (code == next) (code == 0x0a || code == 0x0b) e in (
+      sym (eqb-true code next parts.0),
       elim (or_cases (code == 0x0a) (code == 0x0b) parts.1) [
         | inl a ↦ inl (eqb-true code 0x0a a)
         | inr b ↦ inr (eqb-true code 0x0b b)
-      ])
+      ],
+    )
 
 -- what is written for codes means these codes
 pub written-means : (option place room : ℕ) (mosaic : Bool) (codes : List ℕ) → option < 8 → AreCodes codes → length codes ≤ room
@@ -119,14 +123,14 @@ written-means option place (suc (suc room)) mosaic (code ∷ next ∷ rest) o al
           rw box
           (first.1
           ∙ ap (λ outcome. outcome >>= (λ codes. Ok (code ∷ code ∷ codes)))
-            (written-means option first.0 room mosaic rest o (λ c. all (suc (suc c))) (omega arith))
+          (written-means option first.0 room mosaic rest o (λ c. all (suc (suc c))) (omega arith))
           ∙ ap (λ n. Ok (code ∷ n ∷ rest)) (sym pair.0))
       | inr other ↦
           let first = one-means option place (suc room) mosaic code (written option (mode_after code mosaic) (next ∷ rest)) o (all 0) in
           rw other
           (first.1
           ∙ ap (λ outcome. outcome >>= (λ codes. Ok (code ∷ codes)))
-            (written-means option first.0 (suc room) (mode_after code mosaic) (next ∷ rest) o (λ c. all (suc c)) (omega arith)))
+          (written-means option first.0 (suc room) (mode_after code mosaic) (next ∷ rest) o (λ c. all (suc c)) (omega arith)))
     ]
 
 -- spaces at the end

@@ -49,9 +49,9 @@ above-controls : (now : Attributes) (held : Glyph) (option code character : ℕ)
 above-controls now held option code character high e =
     rw high
     (elim (cases_Bool (now.mosaic && has_blocks code)) [
-        | inl blocks ↦ rw blocks (sym (sign-blocks now.mosaic option code blocks) ∙ e)
-        | inr none ↦ rw none (sym (sign-glyph now.mosaic option code none) ∙ e)
-      ])
+      | inl blocks ↦ rw blocks (sym (sign-blocks now.mosaic option code blocks) ∙ e)
+      | inr none ↦ rw none (sym (sign-glyph now.mosaic option code none) ∙ e)
+    ])
 
 shows : (now : Attributes) (held : Glyph) (option code place : ℕ) (mark : Mark) → IsWritten mark → rows.code_at option now.mosaic place mark ≡ Ok code →
     Shows now.hold mark (glyph_of now held option code)
@@ -93,7 +93,7 @@ module _ (tall : Bool) (option width : ℕ) (front codes back : List ℕ) (marks
 
   read-space : (c k : ℕ) → length codes ≤ c → c < width → k ≡ length front + c → get_or the_row k 0 ≡ 0x20
   read-space c k past inside at =
-      let n = width - length codes in
+      let n : ℕ = width - length codes in
       let long : length (replicate n 0x20) ≡ n = length-replicate {A = ℕ} n 0x20 in
       let whole : length (rows.filled width codes) ≡ length codes + n = length-append codes (replicate n 0x20) ∙ ap (λ k. length codes + k) long in
       ap (λ n. get_or the_row n 0) at
@@ -165,10 +165,10 @@ head_is_seen_lem m c text e own =
     let codes : List ℕ = found.0 in
     let head : rows.filled 24 codes ≡ take 24 (drop 8 row) = same-ok (rows.filled 24 codes) (take 24 (drop 8 row)) found.2 in
     let shown : replicate 8 0x20 ++ (rows.filled 24 codes ++ drop 24 (drop 8 row)) ≡ codes_of m 0 =
-        ap (λ xs. replicate 8 0x20 ++ (xs ++ drop 24 (drop 8 row))) head
-        ∙ ap (λ xs. replicate 8 0x20 ++ xs) (take-append-drop 24 (drop 8 row)) ∙ sym (codes_of-head m own.1) in
+    ap (λ xs. replicate 8 0x20 ++ (xs ++ drop 24 (drop 8 row))) head
+    ∙ ap (λ xs. replicate 8 0x20 ++ xs) (take-append-drop 24 (drop 8 row)) ∙ sym (codes_of-head m own.1) in
     let inside : 8 + c < 32 = (own.0.2 refl).1 in
     cell-shows m 0 (8 + c) (mark_at text c) own
     (subst (λ xs. ShowsAt (is_tall 0) xs option (8 + c) (mark_at text c)) shown
     (shows-at (is_tall 0) option 24 (replicate 8 0x20) codes (drop 24 (drop 8 row)) (marks_of text) c (8 + c) (omega arith) refl refl
-      (marks_from-below 0 0 text) found.1))
+    (marks_from-below 0 0 text) found.1))

@@ -36,8 +36,9 @@ pub sign-stands : (mosaic : Bool) (option code : ℕ) → option < 8 → 0x20 �
 sign-stands mosaic option code o low high =
     let same : code - 0x20 + 0x20 ≡ code = omega arith in
     let here : stands mosaic option (code - 0x20) ≡ true =
-        agree_below_at (stands mosaic option) (λ _. true) 96 (code - 0x20) (agree_below_at (all_stand mosaic) (λ _. true) 8 option (standing mosaic) o) (omega arith) in
+    agree_below_at (stands mosaic option) (λ _. true) 96 (code - 0x20) (agree_below_at (all_stand mosaic) (λ _. true) 8 option (standing mosaic) o) (omega arith) in
     subst (λ n. (code_of mosaic option (sign mosaic option n) ≡ Some n) × ((sign mosaic option n == 0x7b) ≡ false)) same
-    (let parts = and_parts (finds (code_of mosaic option (sign mosaic option (code - 0x20 + 0x20))) (code - 0x20 + 0x20)) (not (sign mosaic option (code - 0x20 + 0x20) == 0x7b)) here in
-    (found-same (code_of mosaic option (sign mosaic option (code - 0x20 + 0x20))) (code - 0x20 + 0x20) parts.0,
-     not-true (sign mosaic option (code - 0x20 + 0x20) == 0x7b) parts.1))
+    (let parts = and_parts (finds (code_of mosaic option (sign mosaic option (code - 0x20 + 0x20))) (code - 0x20 + 0x20)) (not (sign mosaic option (code - 0x20 + 0x20) == 0x7b)) here in (
+      found-same (code_of mosaic option (sign mosaic option (code - 0x20 + 0x20))) (code - 0x20 + 0x20) parts.0,
+      not-true (sign mosaic option (code - 0x20 + 0x20) == 0x7b) parts.1,
+    ))

@@ -26,7 +26,7 @@ marks_from-piece place (c ∷ rest) some size =
     let whole : 1 + ((piece_of (c ∷ rest)).size - 1) ≡ (piece_of (c ∷ rest)).size = omega arith in
     let at : place + 1 + ((piece_of (c ∷ rest)).size - 1) ≡ place + (piece_of (c ∷ rest)).size = omega arith in
     let cut : drop ((piece_of (c ∷ rest)).size - 1) rest ≡ drop (piece_of (c ∷ rest)).size (c ∷ rest) =
-        after ((piece_of (c ∷ rest)).size - 1) ∙ ap (λ n. drop n (c ∷ rest)) (whole) in
+    after ((piece_of (c ∷ rest)).size - 1) ∙ ap (λ n. drop n (c ∷ rest)) (whole) in
     ap (λ ms. replicate (piece_of (c ∷ rest)).cells (placed place (piece_of (c ∷ rest)).mark) ++ ms)
     (marks_from-skip ((piece_of (c ∷ rest)).size - 1) (place + 1) rest
     ∙ ap (λ n. marks_from 0 n (drop ((piece_of (c ∷ rest)).size - 1) rest)) at

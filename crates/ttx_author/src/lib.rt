@@ -7,6 +7,8 @@ mod options;
 mod rows;
 mod signs;
 mod tags;
+#[cfg(test)]
+mod tests;
 mod texts;
 
 pub use options::NationalOption;

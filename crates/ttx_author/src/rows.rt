@@ -9,8 +9,8 @@ ghost use Rattle.ttx_author.specs.Rows.{codes_of, line_of};
 
 use crate::marks::{Mark, Piece, piece_of};
 use crate::options::NationalOption;
-use arrayvec::ArrayVec;
 use crate::signs::code_of;
+use arrayvec::ArrayVec;
 
 /// Why a mark has no code.
 #[derive(Clone, Copy, PartialEq, Eq)]
@@ -120,14 +120,20 @@ impl Line {
     }
 
     // Writes a piece of a text into its cells.
-    fn write_piece(&mut self, width: usize, option: u8, place: usize, piece: Piece) -> Result<(), Lack>
+    fn write_piece(
+        &mut self,
+        width: usize,
+        option: u8,
+        place: usize,
+        piece: Piece,
+    ) -> Result<(), Lack>
         requires option { option < 8 }
         requires width { width ≤ 40 }
         requires room { array_vec_len self.old.codes ≤ width }
         ensures room { OnOk result (array_vec_len self.new.codes ≤ width) }
         ensures code { (marks : List Placed) → MatchResult result
             (λ _. rule.continued_line width option self.old (replicate piece.cells (placed place piece.mark) ++ marks)
-                ≡ rule.continued_line width option self.new marks)
+            ≡ rule.continued_line width option self.new marks)
             (λ lack. rule.continued_line width option self.old (replicate piece.cells (placed place piece.mark) ++ marks) ≡ Err lack) }
     {
         for _cell in 0..piece.cells {

@@ -26,12 +26,7 @@ fn push_name(text: &mut Vec<char>, index: usize) -> Result<(), AllocError>
 }
 
 // Appends what is written for one code.
-fn push_code(
-    text: &mut Vec<char>,
-    option: u8,
-    mosaic: bool,
-    code: u8,
-) -> Result<(), AllocError>
+fn push_code(text: &mut Vec<char>, option: u8, mosaic: bool, code: u8) -> Result<(), AllocError>
     requires option { option < 8 }
     requires code { code < 128 }
     ensures { OnOk result (text.new.items ≡ text.old.items ++ rule.one option mosaic code) }

@@ -21,11 +21,11 @@ returns-clause-meaning g c =
     let option : ℕ = option_number c.args.option in
     let long : length row ≡ g.row.N = length-map c.args.row.now (λ code. code % 128) ∙ c.told-row in
     let codes : take c.end_of-end.result c.without_parity-codes.result ≡ rule.before_spaces row =
-        c.end_of-end.ensures.codes ∙ ap rule.before_spaces c.without_parity-codes.ensures in
+    c.end_of-end.ensures.codes ∙ ap rule.before_spaces c.without_parity-codes.ensures in
     if-ok c.written.result _ _
     (λ text is.
-        ap (line_of g.row.N option) (is ∙ ap (λ n. rule.written n false (take c.end_of-end.result c.without_parity-codes.result)) c.number.ensures.value
-          ∙ ap (rule.written option false) codes)
-        ∙ ap (λ n. line_of n option (rule.text_of option row)) (sym long)
-        ∙ text-means option row (subst (λ n. n < 8) c.number.ensures.value c.number.ensures.range) (without_parity-codes c.args.row.now))
+    ap (line_of g.row.N option) (is ∙ ap (λ n. rule.written n false (take c.end_of-end.result c.without_parity-codes.result)) c.number.ensures.value
+    ∙ ap (rule.written option false) codes)
+    ∙ ap (λ n. line_of n option (rule.text_of option row)) (sym long)
+    ∙ text-means option row (subst (λ n. n < 8) c.number.ensures.value c.number.ensures.range) (without_parity-codes c.args.row.now))
     c.written.ensures

@@ -22,7 +22,7 @@ loop-at-preserved-then-starts_box c =
           ∙ append_assoc text (in_braces (slice_index_or names (c.from.result + 22) [])) (written c.args.option c.loop-at.mosaic (drop (at + 2) codes))
           ∙ ap (λ n. text ++ (in_braces (slice_index_or names (n + 22) []) ++ written c.args.option c.loop-at.mosaic (drop (at + 2) codes))) code
           ∙ ap (λ rest. text ++ (in_braces (slice_index_or names (get_or (drop at codes) 0 0 + 22) []) ++ written c.args.option c.loop-at.mosaic rest))
-            (sym (drop-one codes at 2))
+          (sym (drop-one codes at 2))
           ∙ ap (λ rest. text ++ rest) (sym step.2)
           ∙ c.loop-at.invariant.so_far;
     }
@@ -45,7 +45,7 @@ loop-at-preserved c =
           ∙ append_assoc text (one option c.loop-at.mosaic (get_or codes at 0)) (written option (mode_after (get_or codes at 0) c.loop-at.mosaic) (drop (at + 1) codes))
           ∙ ap (λ n. text ++ (one option c.loop-at.mosaic n ++ written option (mode_after n c.loop-at.mosaic) (drop (at + 1) codes))) code
           ∙ ap (λ rest. text ++ (one option c.loop-at.mosaic (get_or (drop at codes) 0 0)
-            ++ written option (mode_after (get_or (drop at codes) 0 0) c.loop-at.mosaic) rest)) (sym (drop-one codes at 1))
+          ++ written option (mode_after (get_or (drop at codes) 0 0) c.loop-at.mosaic) rest)) (sym (drop-one codes at 1))
           ∙ ap (λ rest. text ++ rest) (sym step)
           ∙ c.loop-at.invariant.so_far;
     }
