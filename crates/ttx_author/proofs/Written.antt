@@ -26,7 +26,7 @@ tag_at-below index inside =
       | inr box ↦ rw box (omega arith)
     ]
 
-names-count : length names ≡ 34
+pub names-count : length names ≡ 34
 unfolding names
 names-count = refl
 

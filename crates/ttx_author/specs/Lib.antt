@@ -5,3 +5,4 @@ pub mod Marks
 pub mod Rows
 pub mod Seen
 pub mod Texts
+pub mod Remedies

@@ -4,6 +4,7 @@
 pub mod laws;
 mod marks;
 mod options;
+mod remedies;
 mod rows;
 mod signs;
 mod tags;
@@ -12,6 +13,7 @@ mod tests;
 mod texts;
 
 pub use options::NationalOption;
+pub use remedies::{nearest_tag, options_with};
 pub use rows::{Lack, Why, head_of, row_of};
 pub use signs::{code_of, has_character, sign};
 pub use tags::{Tag, tag_of};

@@ -1,6 +1,7 @@
 //! Worked rows: what an author writes, and the codes that are sent.
 
 use crate::options::NationalOption;
+use crate::remedies::{nearest_tag, options_with};
 use crate::rows::{Lack, Why, head_of, row_of};
 use crate::texts::text_of;
 use std::alloc::Global;
@@ -176,5 +177,20 @@ fn header(rt: HostRuntime) -> Result<(), Fail> {
         Err(_) => assert!(&rt; false),
         Ok(head) => assert_eq!(&rt; head, *b"\x03@t`                    "),
     }
+    Ok(())
+}
+
+#[test]
+fn remedies(rt: HostRuntime) -> Result<(), Fail> {
+    // Swedish, Italian, French, Spanish and Czech have é.
+    assert!(&rt; options_with('é') == [false, false, true, true, true, true, true, false]);
+    assert!(&rt; options_with('{') == [false; 8]);
+    assert!(&rt; nearest_tag(rt.alloc(), &['r', 'd', 'e'])? == "red");
+    assert!(&rt;
+        nearest_tag(
+            rt.alloc(),
+            &['m', 'o', 's', 'a', 'i', 'c', ' ', 'b', 'l', 'u']
+        )? == "mosaic blue"
+    );
     Ok(())
 }
