@@ -94,7 +94,7 @@ def some_text(rng):
 def mixed_text(rng):
     """A text in which most of what is written has a meaning in its mode."""
     option, mode, parts = rng.randrange(8), 0, []
-    for _ in range(rng.randrange(1, 40)):
+    for _ in range(rng.randrange(1, 52)):
         if rng.random() < 0.2:
             name = rng.choice(list(NAMES))
             code = NAMES[name][0]
@@ -125,15 +125,15 @@ def compare(cases, answers):
     for case, answer in zip(cases, told):
         kind, option, rest = case.split("\t", 2)
         if kind == "text":
-            assert answer == codes(rest, int(option)), (case, answer, codes(rest, int(option)))
-            kinds[answer.split()[0] + answer[-9:].split()[-1] * answer.startswith("lack")] = 1 + kinds.get(
-                answer.split()[0] + answer[-9:].split()[-1] * answer.startswith("lack"), 0)
+            wanted = codes(rest, int(option))
+            assert answer == wanted, (case, answer, wanted)
+            kind = "refused for " + wanted.split()[2] if wanted.startswith("lack") else "with a meaning"
         else:
             assert answer.startswith("text "), (case, answer)
-            text = answer[5:]
-            assert codes(text, int(option)) == "ok " + rest, (case, answer)
-            assert not text.endswith(" "), (case, answer)
-            kinds["row"] = 1 + kinds.get("row", 0)
+            assert codes(answer[5:], int(option)) == "ok " + rest, (case, answer)
+            assert not answer.endswith(" ") or answer == "text ", (case, answer)
+            kind = "rows"
+        kinds[kind] = kinds.get(kind, 0) + 1
     print("authors:", ", ".join(f"{kind} {count}" for kind, count in sorted(kinds.items())))
 
 
