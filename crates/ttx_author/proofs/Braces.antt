@@ -1,15 +1,15 @@
 -- The piece of a name in braces, and of a character.
-use Rattle.std.proofs.Common.{◌≡◌, ◌∙◌, ℕ, zero, suc, ◌+◌, ◌-◌, ◌<◌, ◌≤◌, Bool, true, false, ◌&&◌, not, List, [], ◌∷◌, ◌++◌, take, drop, get_or, length, replicate, refl, sym, ap}
-use Rattle.std.proofs.Common.{arith, subst, Option, Some, None, ◌==◌, eqb, option_map, nat_lt, append_assoc, if◌then◌else◌, slice_index, slice_index_or, length-append}
+use Rattle.std.proofs.Common.{◌≡◌, ◌∙◌, ℕ, suc, ◌+◌, ◌<◌, Bool, true, false, ◌&&◌, not, List, [], ◌∷◌, ◌++◌, drop, length, replicate, refl, sym, ap}
+use Rattle.std.proofs.Common.{arith, Option, Some, None, ◌==◌, eqb, option_map, nat_lt, append_assoc, slice_index, slice_index_or, length-append}
 use Rattle.std.specs.List.{list_all, position, position_from}
 use Rattle.std.specs.Str.{bytes_eq}
 use Rattle.std.proofs.lemmas.Bool.{agree_below, agree_below_at, eqb-true, and_parts, not-true, ltb-true}
 use Rattle.std.proofs.lemmas.Iterator.Adapters.{position_from-zero}
 use Rattle.std.proofs.lemmas.List.{get_or_append_left, take_at, drop_at}
-use Rattle.ttx_author.specs.declared.marks.Mark.TheVariants.{Sign, Control, Stray}
+use Rattle.ttx_author.specs.declared.marks.Mark.TheVariants.{Sign, Control}
 use Rattle.ttx_author.specs.declared.marks.Piece.{Piece}
 use Rattle.ttx_author.specs.Tags.{names, tag_at, tag_of}
-use Rattle.ttx_author.specs.Marks.{Placed, placed, piece, tagged, braced, piece_of, marks_from}
+use Rattle.ttx_author.specs.Marks.{placed, piece, tagged, braced, piece_of, marks_from}
 use Rattle.ttx_author.specs.Texts.{in_braces}
 use Rattle.ttx_author.proofs.Steps.{marks_from-piece}
 

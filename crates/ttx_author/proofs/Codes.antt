@@ -1,10 +1,10 @@
 -- The code of each mark.
-use Rattle.std.proofs.Common.{◌≡◌, ◌∙◌, ℕ, zero, suc, ◌+◌, ◌<◌, ◌≤◌, Bool, true, false, List, [], ◌∷◌, ◌++◌, take, get_or, length, map, refl, sym, ap, arith, inl, inr, subst}
+use Rattle.std.proofs.Common.{◌≡◌, ◌∙◌, ℕ, zero, suc, ◌+◌, ◌<◌, ◌≤◌, Bool, true, List, [], ◌∷◌, take, get_or, length, map, refl, sym, ap, arith, inl, inr, subst}
 use Rattle.std.proofs.Common.{Result, Ok, Err, Option, Some, None, ◌==◌}
 use Rattle.std.specs.List.{find, range_with_len}
 use Rattle.std.proofs.lemmas.Bool.{cases_Bool, eqb-true}
 use Rattle.ttx_author.specs.declared.marks.Mark.{Mark}
-use Rattle.ttx_author.specs.declared.marks.Mark.TheVariants.{Sign, Control, Stray}
+use Rattle.ttx_author.specs.declared.marks.Mark.TheVariants.{Sign}
 use Rattle.ttx_author.specs.declared.rows.Lack.{Lack}
 use Rattle.ttx_author.specs.Signs.{sign, code_of}
 use Rattle.ttx_author.specs.Marks.{Placed}

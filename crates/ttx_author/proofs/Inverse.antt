@@ -1,16 +1,15 @@
 -- The text of a row means the row.
 use Rattle.std.proofs.Common.{◌≡◌, ◌∙◌, ℕ, zero, suc, ◌+◌, ◌-◌, ◌<◌, ◌≤◌, ◌⊎◌, Bool, true, false, ◌&&◌, ◌||◌, List, [], ◌∷◌, ◌++◌, take, drop, get_or, length, replicate, refl, sym, ap}
-use Rattle.std.proofs.Common.{arith, inl, inr, subst, Result, Ok, Err, Some, ◌==◌, nat_lt, append_assoc, slice_index_or}
-use Rattle.std.specs.List.{All}
+use Rattle.std.proofs.Common.{arith, inl, inr, Result, Ok, Err, ◌==◌, nat_lt, slice_index_or}
 use Rattle.std.proofs.lemmas.Bool.{cases_Bool, and_parts, or_cases, eqb-true, ltb-true, ltb-false}
 use Rattle.std.proofs.Common.{◌%◌, map, length-drop, get_or-drop}
 use Rattle.std.proofs.lemmas.List.{append-nil, take_all, drop-drop}
 use Rattle.ttx_render.specs.Spacing.{spacing_of}
 use Rattle.ttx_author.specs.declared.marks.Mark.TheVariants.{Sign, Control}
 use Rattle.ttx_author.specs.declared.rows.Lack.{Lack}
-use Rattle.ttx_author.specs.Signs.{sign, code_of}
+use Rattle.ttx_author.specs.Signs.{sign}
 use Rattle.ttx_author.specs.Tags.{names, tag_at}
-use Rattle.ttx_author.specs.Marks.{Placed, placed, marks_from, marks_of}
+use Rattle.ttx_author.specs.Marks.{Placed, placed, marks_from}
 use Rattle.ttx_author.specs.Rows as rows
 use Rattle.ttx_author.specs.Rows.{◌>>=◌, codes_of, mode_after, filled, line_of}
 use Rattle.ttx_author.specs.Texts.{in_braces, one, is_box, starts_box, written, are_spaces, before_spaces, text_of}

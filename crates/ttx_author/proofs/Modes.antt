@@ -1,5 +1,5 @@
 -- Mosaic mode along a row.
-use Rattle.std.proofs.Common.{◌≡◌, ◌∙◌, ℕ, zero, suc, ◌+◌, ◌<◌, ◌≤◌, Bool, true, false, List, [], ◌∷◌, ◌++◌, take, get_or, length, refl, sym, ap, arith, ◌==◌}
+use Rattle.std.proofs.Common.{◌≡◌, ◌∙◌, ℕ, zero, suc, ◌+◌, ◌≤◌, Bool, true, false, List, [], ◌∷◌, ◌++◌, take, get_or, length, refl, sym, ap, arith, ◌==◌}
 use Rattle.std.proofs.Math.Seq.{take-suc}
 use Rattle.ttx_render.specs.declared.spacing.Spacing.{Spacing}
 use Rattle.ttx_render.specs.declared.spacing.Spacing.TheVariants.{AlphaColour, MosaicColour, StartBox, EndBox, NormalHeight, DoubleHeight}

@@ -1,5 +1,5 @@
 -- The cells of a View that show the codes of their own row.
-use Rattle.std.proofs.Common.{◌≡◌, ◌∙◌, ℕ, zero, suc, ◌+◌, ◌<◌, Bool, false, List, [], ◌++◌, drop, replicate, get_or, refl, ap, sym, arith, ◌==◌, true}
+use Rattle.std.proofs.Common.{◌≡◌, ◌∙◌, ℕ, suc, ◌<◌, Bool, false, List, [], ◌++◌, drop, replicate, get_or, ap, arith, ◌==◌, true}
 use Rattle.std.proofs.Math.Dec.{eqb-suc-zero}
 use Rattle.std.proofs.lemmas.List.FromFn.{get_or-map-range_with_len}
 use Rattle.ttx_header.specs.Control.{option_of}

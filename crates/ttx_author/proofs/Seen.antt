@@ -1,7 +1,7 @@
 -- Each cell shows what its mark says.
-use Rattle.std.proofs.Common.{◌≡◌, ◌∙◌, ℕ, zero, suc, ◌+◌, ◌-◌, ◌<◌, ◌≤◌, Bool, true, false, ◌&&◌, List, [], ◌∷◌, ◌++◌, take, drop, get_or, length, map, replicate, refl, sym, ap}
+use Rattle.std.proofs.Common.{◌≡◌, ◌∙◌, ℕ, suc, ◌+◌, ◌-◌, ◌<◌, ◌≤◌, Bool, true, false, ◌&&◌, List, [], ◌++◌, take, drop, get_or, length, map, replicate, refl, sym, ap}
 use Rattle.std.proofs.Common.{◌/◌, ◌%◌, ◌*◌, if◌then◌else◌}
-use Rattle.std.proofs.Common.{arith, inl, inr, subst, Result, Ok, Err, nat_lt}
+use Rattle.std.proofs.Common.{arith, inl, inr, subst, Ok, nat_lt}
 use Rattle.std.proofs.Math.Seq.{take-append-add}
 use Rattle.std.proofs.lemmas.Bool.{cases_Bool, ltb-true, ltb-false, le-ltb, lt-ltb}
 use Rattle.std.proofs.lemmas.List.{get_or_past, get_or-replicate, get_or-append_right, get_or-append-add, get_or_append_left, take-append-le, append-nil, length-map, length-replicate, take-append-drop}
@@ -12,19 +12,17 @@ use Rattle.ttx_page.specs.Memories.{Memory, memory_row}
 use Rattle.ttx_page.specs.Pages.{is_tall}
 use Rattle.ttx_render.specs.declared.cells.Cell.{Cell}
 use Rattle.ttx_render.specs.declared.cells.Glyph.{Glyph}
-use Rattle.ttx_render.specs.declared.cells.Glyph.TheVariants.{Char, Mosaic}
+use Rattle.ttx_render.specs.declared.cells.Glyph.TheVariants.{Char}
 use Rattle.ttx_render.specs.declared.attributes.Attributes.{Attributes}
 use Rattle.ttx_render.specs.Attributes.{attributes_at, mosaic_at, hold_at}
 use Rattle.ttx_render.specs.Cells.{glyph_of}
-use Rattle.ttx_render.specs.Comparison.{cell_in}
 use Rattle.ttx_render.specs.Laws.{IsOwn}
 use Rattle.ttx_render.specs.Mosaics.{has_blocks, mosaic_of, held_at}
 use Rattle.ttx_render.specs.Spacing.{spacing_of}
-use Rattle.ttx_render.specs.View.{view_of, codes_of}
+use Rattle.ttx_render.specs.View.{codes_of}
 use Rattle.ttx_author.specs.declared.marks.Mark.{Mark}
 use Rattle.ttx_author.specs.declared.marks.Mark.TheVariants.{Sign, Control, Stray}
-use Rattle.ttx_author.specs.declared.rows.Lack.{Lack}
-use Rattle.ttx_author.specs.Signs.{block_character, sign, code_of}
+use Rattle.ttx_author.specs.Signs.{block_character, sign}
 use Rattle.ttx_author.specs.Marks.{Placed, marks_of}
 use Rattle.ttx_author.specs.Rows as rows
 use Rattle.ttx_author.specs.Seen.{ShowsCharacter, Shows, CellShows, mark_at, RowIsSeen, HeadIsSeen}

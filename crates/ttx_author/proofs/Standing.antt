@@ -1,5 +1,5 @@
 -- Under each option and in each mode, no two codes have the same character.
-use Rattle.std.proofs.Common.{◌≡◌, ◌∙◌, ℕ, ◌+◌, ◌-◌, ◌<◌, ◌≤◌, Bool, true, false, ◌&&◌, not, Option, Some, None, refl, sym, ap, arith, subst, ◌==◌, eqb}
+use Rattle.std.proofs.Common.{◌≡◌, ℕ, ◌+◌, ◌-◌, ◌<◌, ◌≤◌, Bool, true, false, ◌&&◌, not, Option, Some, None, refl, ap, arith, subst, ◌==◌, eqb}
 use Rattle.std.proofs.lemmas.Bool.{agree_below, agree_below_at, eqb-true, and_parts, not-true}
 use Rattle.ttx_charset.specs.Glyphs.{glyph, national_set}
 use Rattle.ttx_author.specs.Signs.{block_character, sign, code_of}

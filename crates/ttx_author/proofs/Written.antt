@@ -1,5 +1,5 @@
 -- The control codes that an author writes are below 20.
-use Rattle.std.proofs.Common.{◌≡◌, ◌∙◌, ℕ, zero, suc, ◌+◌, ◌-◌, ◌<◌, ◌≤◌, Bool, true, false, List, [], ◌∷◌, ◌++◌, take, get_or, length, map, replicate, refl, sym, ap, arith, inl, inr, subst}
+use Rattle.std.proofs.Common.{◌≡◌, ℕ, zero, suc, ◌+◌, ◌-◌, ◌<◌, Bool, true, false, List, [], ◌∷◌, ◌++◌, take, length, replicate, refl, arith, inl, inr, subst}
 use Rattle.std.proofs.Common.{Option, Some, None, option_map, if◌then◌else◌, ◌==◌, slice_index, nat_lt}
 use Rattle.std.specs.List.{position}
 use Rattle.std.specs.Str.{bytes_eq}

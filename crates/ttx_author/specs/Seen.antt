@@ -3,7 +3,7 @@
 --   ShowsCharacter, Shows           a glyph is a character, or the blocks for which it stands; a glyph is what a mark says
 --   mark_at                         what an author writes into a cell
 --   RowIsSeen, HeadIsSeen           each cell of a row, and of the text in a header, shows what its mark says
-use Rattle.std.specs.Prelude.{◌≡◌, ◌<◌, ◌+◌, ℕ, suc, Bool, false, List, Ok, map, take, drop, slice_index_or}
+use Rattle.std.specs.Prelude.{◌≡◌, ◌+◌, ℕ, suc, Bool, false, List, Ok, map, take, drop, slice_index_or}
 use Rattle.ttx_header.specs.Control.{option_of}
 use Rattle.ttx_page.specs.Memories.{Memory, memory_row}
 use Rattle.ttx_page.specs.Pages.{is_tall}

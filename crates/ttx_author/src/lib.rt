@@ -15,6 +15,4 @@ mod texts;
 pub use options::NationalOption;
 pub use remedies::{nearest_tag, options_with};
 pub use rows::{Lack, Why, head_of, row_of};
-pub use signs::{code_of, has_character, sign};
-pub use tags::{Tag, tag_of};
 pub use texts::text_of;

@@ -1,4 +1,4 @@
-use Rattle.std.proofs.Common.{◌≡◌, ◌∙◌, ℕ, length, nat_eq, rules, subst, IfOk}
+use Rattle.std.proofs.Common.{◌≡◌, ◌∙◌, length, nat_eq, rules, subst, IfOk}
 use Rattle.std.specs.Str.{chars}
 use Rattle.std.proofs.lemmas.Str.{chars_from_encodes}
 use Rattle.strsim.specs.Edits.{levenshtein_row}

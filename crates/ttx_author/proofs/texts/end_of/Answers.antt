@@ -1,7 +1,6 @@
-use Rattle.std.proofs.Common.{◌≡◌, ◌∙◌, ◌<◌, ◌≤◌, List, ◌+◌, ◌-◌, ◌++◌, ◌∷◌, [], ℕ, suc, arith, ap, sym, get_or, length, take, false, eqb, ◌==◌}
+use Rattle.std.proofs.Common.{◌≡◌, ◌∙◌, ◌<◌, ◌≤◌, List, ◌-◌, ◌++◌, ◌∷◌, [], ℕ, suc, arith, ap, sym, get_or, length, take, false, ◌==◌}
 use Rattle.std.proofs.Math.Seq.{take-suc}
 use Rattle.std.proofs.lemmas.Bool.{ne_eqb}
-use Rattle.std.proofs.lemmas.List.{take_all}
 use Rattle.ttx_author.specs.Texts.{before_spaces}
 use Rattle.ttx_author.proofs.Inverse.{before_spaces-more, before_spaces-other, before_spaces-none}
 use Rattle.ttx_author.proofs.texts.end_of.Goals as goal

@@ -1,4 +1,4 @@
-use Rattle.std.proofs.Common.{◌≡◌, ◌++◌, ◌∷◌, [], take}
+use Rattle.std.proofs.Common.{◌≡◌, ◌++◌, take}
 use Rattle.ttx_author.proofs.texts.push_name.Given as goal
 
 abbrev pub invariant-loop-byte : goal.invariant-loop-byte

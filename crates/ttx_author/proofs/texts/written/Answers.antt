@@ -1,4 +1,4 @@
-use Rattle.std.proofs.Common.{◌≡◌, ◌∙◌, ◌<◌, ◌≤◌, ◌+◌, ◌++◌, ◌-◌, List, ℕ, true, false, arith, ap, sym, drop, take, get_or, length, append_assoc, length-drop, slice_index_or, []}
+use Rattle.std.proofs.Common.{◌≡◌, ◌∙◌, ◌<◌, ◌≤◌, ◌+◌, ◌++◌, List, ℕ, true, false, arith, ap, sym, drop, get_or, length, append_assoc, length-drop, slice_index_or, []}
 use Rattle.std.proofs.lemmas.List.{append-nil}
 use Rattle.ttx_author.specs.Tags.{names}
 use Rattle.ttx_author.specs.Rows.{mode_after}
