@@ -1,8 +1,8 @@
 -- What a newsroom answers.
 --
 --   Candidate, candidate_of         an edition that may be put on the air, and its mark in the log
---   News, news_of                   nothing, a next edition, or a text that is none, and why
-use Rattle.std.specs.Prelude.{ℕ, List, string_bytes}
+--   News, news_of                   nothing, a next edition, or a text that is none, and why; want of memory is such a reason
+use Rattle.std.specs.Prelude.{ℕ, List, codes, string_bytes}
 use Rattle.ttx_playout.specs.Schedules.{Edition}
 use Rattle.ttx_playout.specs.Takeovers.{edition_of}
 use Rattle.ttx_air.specs.declared.candidate.Candidate.{Candidate as CandidateValue}
@@ -25,3 +25,4 @@ abbrev pub news_of : NewsValue → News
 news_of value.Nothing = Nothing
 news_of (value.Next next) = Next (candidate_of next)
 news_of (value.Refused mark words) = Refused (string_bytes mark) (string_bytes words)
+news_of (value.NoMemory mark) = Refused (string_bytes mark) (codes "out of memory")

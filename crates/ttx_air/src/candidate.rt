@@ -18,4 +18,6 @@ pub enum News {
     Next(Candidate),
     /// There is a new text, but it makes no edition. The words say why, in one line.
     Refused { mark: String, words: String },
+    /// There is a new text, for which memory ran out.
+    NoMemory { mark: String },
 }

@@ -148,6 +148,14 @@ pub(crate) fn period_ended<N: Newsroom, L: Write>(
                     words.as_bytes(),
                 );
             }
+            News::NoMemory { mark } => {
+                note_refused(
+                    log,
+                    Entry { started, field },
+                    mark.as_bytes(),
+                    b"out of memory",
+                );
+            }
             News::Nothing => {}
         }
     }
