@@ -12,11 +12,15 @@
 //! - `waiting`: the least deadline of each page and of each item.
 //! - `laws`: what holds for one period holds for the endless stream. Each law is a public call with an empty body.
 //!
-//! Two choices:
+//! Three choices:
 //! - `find` names every start of a sure run. A further start never hurts, so its deadline is the least of any certificate with the same
 //!   class, lines and repeat count. To name starts for a blank item of class clearing is never better than to leave its entry out.
 //! - `judge_item` holds a window of transmissions in an `ArrayVec` and allocates nothing. The search of `find` holds a ring
 //!   (`circular_buffer`) as long as a run, which is allocated before the first transmission.
+//! - The second pass records what each slot sends: the item, its header, whether it is sure, and the next slot of the same item, 28 bytes
+//!   a slot, 1.8 MB for the 65,536 slots of the longest cycle, allocated before the first slot. It keeps no packet. A window for each item
+//!   would take more: a run may go round the end of the period, so an item needs its last k transmissions, its first k - 1 and its
+//!   progress, 232 bytes, 11.1 MB for 2,000 pages of 24 items.
 #![tactic(auto)]
 
 mod faults;
