@@ -183,7 +183,7 @@ def unknown_in_index(text):
 @functools.cache
 def known_words():
     """All words of the sources, definitions, proofs, mutants, tests and tools."""
-    files = [file for end in ("rt", "antt", "edit") for file in (TOP / "crates").rglob(f"*.{end}")]
+    files = [file for part in ("src", "specs", "proofs", "must-fail") for file in (TOP / "crates").glob(f"*/{part}/**/*") if file.is_file()]
     files += [file for part in ("tests", "tools", "bench", "demo", "examples") for file in (TOP / part).rglob("*") if file.is_file()]
     words = {file.name for file in files} | {file.stem for file in files}
     for file in files:

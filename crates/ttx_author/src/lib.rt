@@ -8,8 +8,6 @@ mod remedies;
 mod rows;
 mod signs;
 mod tags;
-#[cfg(test)]
-mod tests;
 mod texts;
 
 pub use options::NationalOption;

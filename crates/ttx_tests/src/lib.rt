@@ -5,6 +5,8 @@
 #[cfg(test)]
 mod airing;
 #[cfg(test)]
+mod authors;
+#[cfg(test)]
 mod base;
 #[cfg(test)]
 mod certificates;

@@ -1,12 +1,9 @@
 //! Worked rows: what an author writes, and the codes that are sent.
 
-use crate::options::NationalOption;
-use crate::remedies::{nearest_tag, options_with};
-use crate::rows::{Lack, Why, head_of, row_of};
-use crate::texts::text_of;
 use std::alloc::Global;
 use std::process::Abort;
 use std::test::Fail;
+use ttx_author::{Lack, NationalOption, Why, head_of, nearest_tag, options_with, row_of, text_of};
 
 // The characters of a text.
 fn characters(alloc: Global, text: &str) -> Result<Vec<char>, Fail> {
@@ -192,5 +189,14 @@ fn remedies(rt: HostRuntime) -> Result<(), Fail> {
             &['m', 'o', 's', 'a', 'i', 'c', ' ', 'b', 'l', 'u']
         )? == "mosaic blue"
     );
+    Ok(())
+}
+
+#[test]
+fn national_options(rt: HostRuntime) -> Result<(), Fail> {
+    assert!(&rt; NationalOption::named("french") == NationalOption::numbered(4));
+    assert!(&rt; NationalOption::numbered(4) == Some(NationalOption::French));
+    assert!(&rt; NationalOption::named("French") == None);
+    assert!(&rt; NationalOption::numbered(8) == None);
     Ok(())
 }
