@@ -143,7 +143,8 @@ def misnamed(body):
     """A message, if a heading does not name the functions that the mutant changes."""
     names = ", ".join(dict.fromkeys(name for _, name in turned(body)))
     is_of_names = re.fullmatch(r"\S+(, \S+)*", body.heading)
-    return [f"{body.crate}/{body.edit}: a body under '{body.heading}' turns {names}"] if is_of_names and body.heading != names else []
+    heading = re.sub(r"\w+::", "", body.heading)
+    return [f"{body.crate}/{body.edit}: a body under '{body.heading}' turns {names}"] if is_of_names and heading != names else []
 
 
 def turned_functions(body):
