@@ -1,5 +1,6 @@
 -- Plans that are improved step by step.
-use Rattle.std.proofs.Common.{◌≡◌, ℕ, List, [], map, None, Result, Ok, Err, sym, subst}
+use Rattle.std.proofs.Common.{◌≡◌, ℕ, List, [], map, Some, None, Result, Ok, Err, sym, subst}
+use Rattle.ttx_cycle.specs.Cycles.{slots_of}
 use Rattle.ttx_cycle.specs.declared.cycles.Cycle.{Cycle}
 use Rattle.ttx_source.specs.Promises.{PromiseFields}
 use Rattle.ttx_source.specs.Services.{ServiceFields, pages_of}
@@ -13,7 +14,7 @@ use Rattle.ttx_promise.specs.declared.planning.Missed.{Missed}
 use Rattle.ttx_promise.specs.declared.planning.Missed.TheVariants as missed
 use Rattle.ttx_promise.specs.declared.planning.Viewers.{Viewers}
 use Rattle.ttx_promise.proofs.KeptPromises.{are_kept}
-use Rattle.ttx_promise.proofs.RaisedPages.{further_raised}
+use Rattle.ttx_promise.proofs.RaisedPages.{same_service, further_raised}
 
 pub judged : (v : Viewers) (promises : List PromiseFields) (old new : ServiceFields) (cycle : List (List ℕ)) (deadlines : List ℕ)
     (answer : Improved) → IsSpreadFor v.receivers.late v.receivers.class old cycle →
@@ -59,3 +60,11 @@ pub ends_from : (v : Viewers) (promises : List PromiseFields) (first old new : S
 ends_from v promises first old new (Ok cycle) r e = (further_raised promises first old new r e.0, e.1)
 ends_from v promises first old new (Err (missed.Late pages)) r e = (further_raised promises first old new r e.0, e.1)
 ends_from v promises first old new (Err missed.NoMemory) r e = tt
+
+-- of a service without promises each plan keeps them all
+pub none_promised : (v : Viewers) (service : ServiceFields) (cycle : Cycle) →
+    IsSpreadFor v.receivers.late v.receivers.class service (slots_of cycle) → Ends v [] service service (Ok cycle)
+none_promised v service cycle plan = (
+  same_service [] service,
+  record { plan = plan; kept = λ number promise e p at. let f : None ≡ Some promise = e in cc },
+)

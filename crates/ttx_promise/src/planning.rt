@@ -1,6 +1,6 @@
 //! The plan that keeps each promise.
 
-ghost use Rattle.std.specs.Prelude.{◌≡◌, ◌≢◌, ◌<◌, ◌≤◌, length, map, IfOk};
+ghost use Rattle.std.specs.Prelude.{◌≡◌, ◌≢◌, ◌<◌, ◌≤◌, [], length, map, IfOk};
 ghost use Rattle.ttx_cycle.specs.Cycles.{slots_of};
 ghost use Rattle.ttx_plan.specs.Spread.{IsTooLongSpread};
 ghost use Rattle.ttx_promise.specs.Lateness.{often_at};
@@ -182,6 +182,16 @@ fn begin(
     }
 }
 
+// The plan of a service of which nothing is promised: the service stays as it is.
+fn plan_unpromised(alloc: Global, service: &Service, viewers: Viewers) -> Result<Cycle, Missed>
+    ensures { Ends viewers [] service.now service.now result }
+{
+    match plan_spread(alloc, service, viewers.receivers) {
+        Ok(cycle) => Ok(cycle),
+        Err(_) => Err(Missed::NoMemory),
+    }
+}
+
 // The plan that keeps each promise, of a service that has a plan.
 fn keep_promises(
     alloc: Global,
@@ -194,6 +204,9 @@ fn keep_promises(
     requires few_repeats { viewers.repeat ≤ 8 }
     ensures { Ends viewers (map promise_view promises.now) service.old service.new result }
 {
+    if promises.is_empty() {
+        return plan_unpromised(alloc, service, viewers);
+    }
     match begin(alloc, service, viewers, promises) {
         Ok(cycle) => improve_all(alloc, service, viewers, promises, cycle),
         Err(_) => Err(Missed::NoMemory),
