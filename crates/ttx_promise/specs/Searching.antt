@@ -11,7 +11,7 @@ use Rattle.ttx_source.specs.Services.{ServiceFields}
 use Rattle.ttx_promise.specs.Promises.{IsRaised, IsSpreadFor, raised, room}
 use Rattle.ttx_promise.specs.declared.planning.Viewers.{Viewers}
 
--- the page at an index sent twice as often
+-- the page at an index sent twice as often, and the cycle fits; or the service as it was
 abbrev pub MayBeRaised : Bool → Class → ℕ → ServiceFields → ServiceFields → Bool → Type 0
 MayBeRaised late class index old new true = (new ≡ raised old index) × (IsTooLongSpread late class new → ⊥)
 MayBeRaised late class index old new false = new ≡ old

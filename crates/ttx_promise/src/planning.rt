@@ -222,7 +222,8 @@ fn keep_promises(
 /// often. `service` is then that of the last plan. `NoPages` and `TooLong` are those of `plan_spread`, and `service` is unchanged. After
 /// `NoMemory` nothing is known of `service`.
 ///
-/// A search over layouts comes first. Its plan is judged by the waits of its cycle, and further steps go by these waits.
+/// Without promises `service` stays as it is, and the plan is that of `plan_spread`. Otherwise a search over layouts comes first. Its plan is
+/// judged by the waits of its cycle, and further steps go by these waits.
 pub fn plan_promises(
     alloc: Global,
     service: &mut Service,

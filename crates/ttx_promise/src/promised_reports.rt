@@ -79,7 +79,8 @@ fn item_lines(
 
 /// How long a viewer of each page of a service waits, as lines of text. The line of a page with a promise ends with `F fields S s of G`
 /// (G in fields), or with `F fields S s late: P s` if it comes too late. Pages without a promise, and all pages together, have the lines of
-/// `wait`. A last line names the pages on the air that the service does not have. `repeat` is 1 to 8. `Err` if memory runs out.
+/// `wait`. If there are pages on the air that the service does not have, a last line names them. `repeat` is 1 to 8. `Err` if memory runs
+/// out.
 pub fn report_promises(
     alloc: Global,
     cycle: &Cycle,
