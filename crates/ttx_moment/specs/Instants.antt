@@ -3,7 +3,7 @@
 --   ahead                   how many seconds a clock at an offset is ahead of UTC, within a day
 --   moment_of_instant       the Modified Julian Date and the second of its day of an instant, in nanoseconds since 1970-01-01, with a clock at an offset
 --   IsOnTheAir              not before 1970, and of a date with at most five digits
-use Rattle.std.specs.Prelude.{ℕ, ◌+◌, ◌*◌, ◌/◌, ◌%◌, ℤ, pos, ◌+ℤ◌, ◌≤ℤ◌, nat_abs}
+use Rattle.std.specs.Prelude.{ℕ, ◌+◌, ◌/◌, ◌%◌, ℤ, pos, ◌+ℤ◌, ◌≤ℤ◌, nat_abs}
 use Rattle.ttx_send.specs.Times.{Moment, IsMoment, moment_at}
 
 -- an offset is above -48 hours
