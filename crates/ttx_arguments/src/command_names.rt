@@ -94,7 +94,7 @@ impl CommandName {
                 "Writes a page of a service as it is displayed when received whole",
             CommandName::Splice => "Judges the change from an old cycle to a new one, yes or no",
             CommandName::Wait =>
-                "Says how long viewers of each page wait at most, and for which item",
+                "Prints the longest wait for each page, and the item that causes it",
             CommandName::Send => "Sends a cycle again and again, with the time, to standard output",
             CommandName::Pages =>
                 "Lists the pages of a cycle, and what is sent under their headers",
@@ -103,7 +103,7 @@ impl CommandName {
             CommandName::Check =>
                 "Reports what is wrong, or probably wrong, in the text of a service",
             CommandName::Version =>
-                "Writes the version, and the kit and the logic by which it is proved",
+                "Writes the version, and the proof kit and logic that proved it",
         }
     }
 

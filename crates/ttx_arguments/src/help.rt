@@ -14,7 +14,7 @@ Plan and certify:
   plan     Lays out a service as a cycle of slots, and writes it to OUT
   find     Finds the certificate with the least deadline, and writes it to OUT
   certify  Judges a cycle and its service by a certificate, yes or no
-  wait     Says how long viewers of each page wait at most, and for which item
+  wait     Prints the longest wait for each page, and the item that causes it
   refute   Looks for a receiver that fails to show a page (a counter-run)
   replay   Replays a counter-run of refute, and shows where the page is wrong
 
@@ -31,30 +31,30 @@ Look into a packet file:
   extract  Writes the service definition that a cycle sends to OUT
 
 About ttx:
-  version  Writes the version, and the kit and the logic by which it is proved
+  version  Writes the version, and the proof kit and logic that proved it
   help     Writes this help, or that of a command: ttx help plan
 
 Options:
   -h, --help     Print help
-  -V, --version  Write what version writes
+  -V, --version  Print the version, the kit and the logic
 
 Example:
   ttx plan service.toml cycle.t42
   ttx find cycle.t42 service.toml cycle.cert
   ttx certify cycle.t42 service.toml cycle.cert
 
-Without arguments, ttx does the same as: ttx inspect -
+Without arguments, ttx runs: ttx inspect -
 
-An input named - is standard input; only one input may be. Inputs are opened in
-the order of the arguments, then OUT is created or emptied. So OUT is empty
-after a later refusal, and untouched if the arguments are refused or an input
-cannot be opened. OUT is always the name of a file.
+An input named - is standard input; only one input may be. ttx opens the inputs
+in the order of the arguments, then creates or empties OUT. After a later
+refusal OUT is empty; if the arguments are refused or an input cannot be opened,
+OUT is untouched. OUT is always the name of a file.
 
 Statuses:
   0  done
   1  the answer is no; the reason is on standard output
   2  error: .. (the arguments) or refused: .. (an argument or an input) on
-     standard error; also after help
+     standard error; also after --help
   3  fault: file (a file cannot be opened or created), fault: read,
      fault: write, fault: memory on standard error";
 
@@ -69,8 +69,9 @@ pub(crate) const INSPECT_MORE: &str =
 After header come the id MPP/SSSS and the control bits that are set, C4 to C14.
 After links come six links (MPP/SSSS, or - for none) and row24 if row 24 is
 shown, or unreadable. After info come the five digits of the Modified Julian
-Date and the six digits of UTC, or fault N. A line ends in corrected if a
-receiver has to correct a byte that says what the packet is.
+Date and the six digits of UTC, or fault N: 1 not format 1, 2 a Hamming byte,
+3 a digit, 4 parity. A line ends in corrected if a receiver has to correct a
+byte that says what the packet is.
 
 Statuses:
   0  done
@@ -86,13 +87,14 @@ With --late, a time-filling header of the magazine comes between two headers of
 one page number. Receivers that show a page only when another page number ends
 it then show each page: certify --late says yes to the certificate of find.
 
-The cycle has eight rounds, and a page whose often is O is sent in O of them.
+The cycle has eight rounds, and a page with often N is sent in N of them.
 Without --spread every page is sent in the first round, which is then the
 longest. With --spread the rounds are of like length, so a page that is sent
-often comes at even times; and a page that has within in SERVICE, and no often,
-is sent as often as that takes. If that is not possible, OUT stays empty, and
-there is a line for each page that comes too late:
-  late PAGE F fields of G   it is seen within F fields at most, not within G
+often comes at regular intervals; and a page that has within in SERVICE, and no
+often, is sent as often as that takes. If that is not possible, OUT stays empty,
+and there is a line for each page that comes too late:
+  late PAGE F fields of G   PAGE is seen after up to F fields; its within is G
+                            fields
 
 Statuses:
   0  done
@@ -104,17 +106,18 @@ Statuses:
 
 pub(crate) const PLANNED_LATE_OPTION: &str = "Plan also for receivers that may show a page late";
 
-pub(crate) const SPREAD_OPTION: &str = "Spread pages that come often evenly, and let those with
-within come as often as they need";
+pub(crate) const SPREAD_OPTION: &str = "Space out pages that are sent more than once, and send
+pages with within as often as they need";
 
 pub(crate) const FIND_MORE: &str =
     "Reads CYCLE and SERVICE, in this order, to their ends. Writes the certificate to
 OUT, and then to standard output: found deadline D
 If there is no certificate, OUT stays empty, and the first reason is written to
 standard output: no NUMBER NAME ..
-With --deadline or --within the certificate has this deadline instead, so that
-those of two cycles can have the same, as splice asks. If the least deadline is
-greater, there is none, for the reason that certify would have (no 10 late ..).
+With --deadline or --within the certificate has this deadline instead. Use it to
+give two cycles the same deadline, as splice requires. If the least deadline is
+greater, no certificate is written, and the reason is printed as by certify
+(no 10 late ..).
 
 Statuses:
   0  found
@@ -139,11 +142,13 @@ If after a header of a page the next header in its magazine has the same page
 number, the verdict is, if there is no other reason,
   no 13 never-shown PAGE SLOT
                      the first such header
-With --within, which goes with neither --late nor --twice, a yes means also that
-pages are seen within SECONDS. Otherwise the answer is, if there is no other
-reason, one of
-  no lines L of M    CERT counts fields of L lines, and SERVICE has M
-  no deadline D of E CERT promises D fields, and SECONDS are E fields
+--within cannot be combined with --late or --twice. With it, a yes also means
+that pages are seen within SECONDS. Otherwise the answer is, if there is no
+other reason, one of
+  no lines L of M
+                     CERT counts fields of L lines, and SERVICE has M
+  no deadline D of E
+                     CERT promises D fields, and SECONDS are E fields
 
 Statuses:
   0  yes
@@ -162,12 +167,12 @@ pub(crate) const REFUTE_MORE: &str =
 be of class any; only its lines, repeat and deadline count. Writes one of
   none
   counter PAGE start S slots N hits H choices C
-The second means: a receiver that is set to PAGE and receives N slots, from slot
-S on and round the cycle, shows something else at the end, with H wrong bits
-within the error rule and C choices taken or not. So no certificate with these
-numbers is accepted. If all pages are sent unchanged in clean slots, none means
-that some such certificate is accepted. With --save OUT the counter-run is
-written to OUT; OUT stays empty if there is none.
+The second line means: a receiver set to PAGE that receives N slots from slot S
+on, round the cycle, with H wrong bits (within the error rule) and C choices,
+ends with something other than the page. So no certificate with these numbers is
+accepted. If all pages are sent unchanged in clean slots, none means that some
+such certificate is accepted. With --save OUT the counter-run is written to OUT;
+OUT stays empty if there is none.
 
 Statuses:
   0  none
@@ -183,8 +188,8 @@ pub(crate) const REPLAY_MORE: &str =
     "Reads CYCLE, SERVICE and COUNTER, in this order, to their ends. If COUNTER is a
 counter-run of CYCLE and SERVICE, writes the line of refute
   counter PAGE start S slots N hits H choices C
-and then two lines for each row that is shown differently from the page, columns
-0 to 7 and 32 to 39 of row 0 aside:
+and then two lines for each row that is shown differently from the page,
+ignoring columns 0 to 7 and 32 to 39 of row 0:
   shown row R ..  what the receiver shows at the end: a word for each of 40
                   cells, as receive writes them
   page row R ..   the row of the page
@@ -201,12 +206,12 @@ Statuses:
   3  fault: file, fault: read, fault: write, fault: memory";
 
 pub(crate) const RECEIVE_MORE: &str =
-    "Reads CYCLE to its end. A receiver that is set to PAGE and has received nothing
-yet receives N slots, from slot S on and round the cycle. Writes 25 lines,
-row 0 to row 24, each with a word of eight hexadecimal digits for each of 40
-cells; then links, and six links (MPP/SSSS, or - for none). From its lowest bit,
-a word has 21 bits for the character or mosaic, 3 for its colour, 3 for the
-background, then flash, concealed and picture, and 2 bits for double height.
+    "Reads CYCLE to its end. A receiver with an empty memory is set to PAGE and
+receives N slots from slot S on, round the cycle. Writes 25 lines, row 0 to
+row 24, each with a word of eight hexadecimal digits for each of 40 cells; then
+links, and six links (MPP/SSSS, or - for none). From its lowest bit, a word has
+21 bits for the character or mosaic, 3 for its colour, 3 for the background,
+then flash, concealed and picture, and 2 bits for double height.
 
 A receiver may miss a packet up to L slots after its page's header, stop at a
 serial header of another magazine, and erase the page when it is set to it.
@@ -220,9 +225,9 @@ Statuses:
   3  fault: file, fault: read, fault: write, fault: memory";
 
 pub(crate) const SHOW_MORE: &str =
-    "Reads CYCLE to its end. A receiver that is set to PAGE and has received nothing
-yet receives N slots, from slot S on and round the cycle. Then the page is
-written as FORM says:
+    "Reads CYCLE to its end. A receiver with an empty memory is set to PAGE and
+receives N slots from slot S on, round the cycle. Then the page is written in
+the form FORM:
   text  25 lines of characters, and a line with the six links (MPP, MPP/SSSS,
         or - for none)
   ansi  the same, with terminal codes for colours and flashing
@@ -245,8 +250,8 @@ Statuses:
   3  fault: file, fault: read, fault: write, fault: memory";
 
 pub(crate) const PREVIEW_MORE: &str =
-    "Reads SERVICE to its end. Then the first page that PAGE names is written as FORM
-says:
+    "Reads SERVICE to its end. Then the first page that PAGE names is written in the
+form FORM:
   text  25 lines of characters, and a line with the six links (MPP, MPP/SSSS,
         or - for none)
   ansi  the same, with terminal codes for colours and flashing
@@ -267,7 +272,7 @@ pub(crate) const SPLICE_MORE: &str =
     "OLD is sent again and again; then, at the end of a period, NEW is sent again and
 again, from its slot 0 on. Reads OLD, NEW, OLDSERVICE, NEWSERVICE, OLDCERT and
 NEWCERT, in this order, to their ends. Writes the verdict to standard output:
-  yes                       each page that both services have alike is seen
+  yes                       each page that is the same in both services is seen
                             right from D fields after tuning, through the change
                             and ever after; each other new page from D fields
                             after tuning or the change
@@ -279,8 +284,8 @@ NEWCERT, in this order, to their ends. Writes the verdict to standard output:
                             differs from it
   no 5 seam-late PAGE ITEM  through the change, ITEM of PAGE does not come in
                             time
-  no 6 too-soon SLOTS       with --sent: D fields are SLOTS slots more than OLD
-                            has been sent for
+  no 6 too-soon SLOTS       with --sent: OLD has been sent for SLOTS slots fewer
+                            than D fields
 
 With --sent, OLD may itself have begun with a change. If the answer to each
 change of a service is yes, each page is seen right from D fields after tuning,
@@ -299,8 +304,8 @@ pub(crate) const WAIT_MORE: &str =
     "Reads CYCLE and SERVICE, in this order, to their ends. Writes a line for each
 page, in the order of SERVICE, one of
   PAGE F fields S s ITEM
-      the page alone is certified with a deadline of F fields, and no less; ITEM
-      is the first item that needs so many; S is F in seconds of 50 fields
+      F is the least deadline with which this page alone is certified; ITEM is
+      the first item that needs so many fields; S is F in seconds of 50 fields
   PAGE never ITEM sent N near A cut B
       no deadline is enough: of the N packets of ITEM in a period, A come at
       most as many slots after their header as a field has lines, and B come
@@ -311,7 +316,7 @@ page, in the order of SERVICE, one of
 With --items, the line of a page that is sent unchanged is followed by a line
 for each item that a viewer sees, one of
   PAGE ITEM F fields S s
-      the item alone is certified with a deadline of F fields, and no less
+      F is the least deadline with which this item alone is certified
   PAGE ITEM never sent N near A cut B
       no deadline is enough for it
 The last line is one of
@@ -324,7 +329,7 @@ If pages have within in SERVICE, and without --items, the line of such a page is
 one of
   PAGE F fields S s of G       in time: within is G fields
   PAGE F fields S s late: P s  too late: within is P seconds
-  PAGE never .. late: P s      as above, and so too late
+  PAGE never .. late: P s      never seen, so also too late
 and after the line of all pages comes, if CYCLE has pages that SERVICE lacks,
   not in the service: PAGE ..
 
@@ -344,10 +349,10 @@ again and again, from its field F on. The first field is sent at MJD/HHMMSS, and
 each second has 50 fields. Each page header shows the clock, and each packet
 8/30 format 1 has the date and time in UTC. Everything else is sent as it is in
 CYCLE, also the offset in packets 8/30. An empty slot is written as 42 zero
-bytes, for which a sender sends nothing.
+bytes; the sender must leave that line without a packet.
 
-What certify says yes to is also seen from what is sent. A certificate counts
-fields of its own lines, so L must be the number of lines in it.
+A yes of certify also holds for what send writes, if L is the number of lines in
+the certificate.
 
 Statuses:
   0  done
@@ -358,8 +363,8 @@ Statuses:
      gone), fault: memory";
 
 pub(crate) const PAGES_MORE: &str =
-    "Reads CYCLE to its end, then writes a line for each page that has a header, by
-rising page numbers:
+    "Reads CYCLE to its end, then writes a line for each page that has a header, in
+ascending order of page number:
   MPP/SSSS sent N rows R ..    how often its header is sent, and how many rows
                                under it
 The line goes on with links if X/27/0 is sent, then with the control bits, C4 to
@@ -379,8 +384,8 @@ Statuses:
 
 pub(crate) const BOOK_MORE: &str =
     "Reads CYCLE to its end. OUT has an index, and each page as a picture with its
-links and its text; it needs no other file and no network. Three typed digits
-lead to a page, and so do its links. A page is shown as by a receiver that has
+links and its text; it needs no other file and no network. Typing three digits,
+or following a link, leads to a page. A page is shown as by a receiver that has
 received the cycle twice and missed nothing; concealed characters are not
 shown. A time-filling header is not a page.
 
@@ -398,9 +403,8 @@ Its pages are those that have a header, except time-filling ones, in the order
 of their first headers, each with what its first transmissions send; often is
 the number of its headers, rounded down to 1, 2, 4 or 8, serial is C11, and the
 packet 8/30 is the first one. What is not sent is blank. Before anything is
-written, the text is read again and compared with CYCLE: none of certify's
-reasons 2 to 7 is true of any of its pages on CYCLE. No packet says how many
-lines a field has; L does.
+written, the text is read back: it must give exactly this service. The cycle
+does not say how many lines a field has, so give L.
 
 Statuses:
   0  done
@@ -422,16 +426,16 @@ pub(crate) const CHECK_MORE: &str =
     "Reads SERVICE to its end. If the text is refused, writes one line to standard
 output that says where the mistake is, and what it is:
   line L column C PLACE: WORDS
-Otherwise writes a line for each probable mistake, or one that says that there
-is none:
+Otherwise writes a line for each probable mistake or, if there is none, the line
+ok:
   warning PLACE: WORDS    unknown keys first, then page after page, then the
                           magazines
   ok pages N
-PLACE is service, info, page MPP/SSSS with the part of it that is meant (the
-number of the page in order, if it has no id), or magazine M.
+PLACE is service, info, magazine M, or page MPP/SSSS and its key; a page without
+an id is named by its position.
 
 Statuses:
-  0  the text is read
+  0  the text is accepted
   2  the text is refused; also error: .. (the arguments) and
      refused: service too-long on standard error
   3  fault: file, fault: read, fault: write, fault: memory";
@@ -491,8 +495,8 @@ pub(crate) const FOUND_OPERAND: &str =
 if there is none";
 
 pub(crate) const PAGE_OPERAND: &str = "Page: MPP for any subpage, or MPP/SSSS for one; M is 1 to 8,
-other digits are 0 to 9 and A to F, PP is not FF, SSSS is inside
-3F7F and not 3F7F";
+other digits are 0 to 9 and A to F, PP is not FF, SSSS is 0000
+to 3F7E, its third digit at most 7";
 
 pub(crate) const CLASS_OPTION: &str = "Receivers to serve: any, or those that surely clear a
 page when they are set to it
@@ -519,8 +523,8 @@ pub(crate) const FORM_OPTION: &str = "How the page is written, see below
 
 pub(crate) const REVEAL_OPTION: &str = "Show concealed characters";
 
-pub(crate) const TWICE_OPTION: &str = "Read CYCLE twice, slot by slot, and keep none of it;
-with --late it is kept";
+pub(crate) const TWICE_OPTION: &str = "Read CYCLE twice instead of keeping it in memory
+(with --late it is kept)";
 
 pub(crate) const DEADLINE_OPTION: &str = "Fields of 0.02 s within which pages are to be seen,
 1 to 1000000";
@@ -530,7 +534,7 @@ pub(crate) const WITHIN_OPTION: &str = "Seconds within which pages are to be see
 fields of 0.02 s";
 
 pub(crate) const SENT_OPTION: &str = "Whole periods for which OLD has been on the air, 0 to
-4294967295; without it, OLD has always been";
+4294967295; without it, OLD counts as sent for ever";
 
 pub(crate) const SAVE_OPTION: &str = "Counter-run to write, a text; created or emptied, and left
 empty if there is none";
@@ -543,6 +547,6 @@ pub(crate) const FIELDS_OPTION: &str = "How many fields to send, 0 to 4294967295
 pub(crate) const PHASE_OPTION: &str = "Field of the repeated cycle to begin at,
 0 to 4294967295 [default: 0]";
 
-pub(crate) const OFFSET_OPTION: &str = "Half hours that the clock in page headers is ahead of
-UTC, 0 to 47; one behind by H is 48 - H ahead
+pub(crate) const OFFSET_OPTION: &str = "Local time for page headers, in half hours ahead of
+UTC, 0 to 47; for H half hours behind, give 48 - H
 [default: 0]";
