@@ -86,15 +86,38 @@ def roff(text):
     return "\\&" + text if text.startswith((".", "'")) else text
 
 
+def formatted(lines):
+    """Paragraphs, and lists: an item stands two columns in, its text two or more columns behind it or farther in on the next lines."""
+    out, listed = [], False
+    for line in lines:
+        if item := re.match(r"  (\S.*?)(?: {2,}(.*))?$", line):
+            out += [".TP", roff(item[1])] + ([roff(item[2])] if item[2] else [])
+        elif line.startswith(" "):
+            out.append(roff(line.strip()))
+        else:
+            out += [".PP"] if listed or not line else []
+            out += [roff(line)] if line else []
+        listed = line.startswith(" ")
+    return out
+
+
 def preformatted(lines):
     return [".nf", *[roff(line) for line in lines], ".fi"]
+
+
+def without_example(lines):
+    """The lines of the help without those of its example, and those."""
+    begin = lines.index("Example:")
+    end = lines.index("", begin)
+    return lines[:begin] + lines[end + 1 :], lines[begin + 1 : end]
 
 
 def man(text, commands, rest):
     out = ['.TH TTX 1', '.SH NAME', f'ttx \\- {roff(text[0].lower() + text[1:])}', '.SH SYNOPSIS']
     for command in commands:
         out += [roff(command.usage), ".br"]
-    out += [".SH DESCRIPTION", *preformatted(rest)]
+    rest, example = without_example(rest)
+    out += [".SH DESCRIPTION", roff(text) + ".", ".PP", *formatted(rest)]
     for command in commands:
         out += [f".SH {command.name.upper()}", roff(command.usage), ".PP", roff(command.text) + "."]
         for name, said in command.arguments:
@@ -102,7 +125,8 @@ def man(text, commands, rest):
         for option in command.options:
             value = f" \\fI{roff(option.value)}\\fR" if option.value else ""
             out += [".TP", f"\\fB\\-\\-{option.name}\\fR{value}", roff(option.text)]
-        out += [".PP", *preformatted(command.rest)]
+        out += [".PP", *formatted(command.rest)]
+    out += [".SH EXAMPLES", *preformatted(example)]
     return "\n".join(out) + "\n"
 
 
