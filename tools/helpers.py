@@ -36,11 +36,11 @@ def help_of(program, words):
 
 
 def joined(lines):
-    """The same lines, each argument and option on one line."""
+    """The same lines, the usage, each argument and each option on one line."""
     told, listed = [], False
     for line in lines:
         if line and not line.startswith(" "):
-            listed = line in ("Arguments:", "Options:")
+            listed = line in ("Arguments:", "Options:") or line.startswith("Usage: ")
         if listed and line.startswith(" " * 10):
             told[-1] += " " + line.strip()
         else:

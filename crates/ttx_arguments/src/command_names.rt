@@ -107,8 +107,8 @@ impl CommandName {
         }
     }
 
-    /// What help says of it below them.
-    pub(crate) fn after_help<'a>(self) -> &'a str {
+    /// What help says of it below them, or its whole help.
+    pub(crate) fn help<'a>(self) -> &'a str {
         match self {
             CommandName::Inspect => help::INSPECT_MORE,
             CommandName::Plan => help::PLAN_MORE,
@@ -119,7 +119,7 @@ impl CommandName {
             CommandName::Receive => help::RECEIVE_MORE,
             CommandName::Show => help::SHOW_MORE,
             CommandName::Preview => help::PREVIEW_MORE,
-            CommandName::Splice => help::SPLICE_MORE,
+            CommandName::Splice => help::SPLICE,
             CommandName::Wait => help::WAIT_MORE,
             CommandName::Send => help::SEND_MORE,
             CommandName::Pages => help::PAGES_MORE,
@@ -128,6 +128,11 @@ impl CommandName {
             CommandName::Check => help::CHECK_MORE,
             CommandName::Version => help::VERSION_MORE,
         }
+    }
+
+    /// Whether that is its whole help, since the usage line that `clap` would write is too long.
+    pub(crate) fn has_whole_help(self) -> bool {
+        matches!(self, CommandName::Splice)
     }
 
     /// Its arguments.

@@ -1,11 +1,11 @@
 //! The commands and their arguments, as `clap` reads them.
 
 ghost use Rattle.std.specs.Prelude.{◌≡◌, false};
-ghost use Rattle.clap.specs.Words.{rule_of};
+ghost use Rattle.clap.specs.Words.{rule_of, new_app};
 ghost use Rattle.ttx_arguments.specs.Grammar as rule;
-ghost use Rattle.ttx_arguments.specs.Grammar.{AreNames, HasNames, Builds, bare_app, ttx_app};
+ghost use Rattle.ttx_arguments.specs.Grammar.{AreNames, HasNames, IsBuiltAs, Builds, bare_app, ttx_app};
 ghost use Rattle.ttx_arguments.specs.Grammar.{parser_taking, option_rule, rule_of_argument, app_of_command, with_commands};
-ghost use Rattle.ttx_arguments.specs.Arguments.{id_of, is_needed};
+ghost use Rattle.ttx_arguments.specs.Arguments.{id_of, is_needed, name_of};
 
 use crate::arguments::{Argument, Takes};
 use crate::command_names::{COMMANDS, CommandName};
@@ -75,14 +75,24 @@ fn argument_of<'a>(alloc: Global, argument: Argument, names: Names<'a>) -> Arg<'
     }
 }
 
+// A command without arguments.
+fn bare_command<'a>(alloc: Global, name: CommandName) -> Command<'a>
+    ensures { IsBuiltAs result (new_app (name_of name)) }
+{
+    let command = Command::new(alloc, name.name()).about(name.about());
+    if name.has_whole_help() {
+        command.override_help(name.help())
+    } else {
+        command.after_help(name.help())
+    }
+}
+
 // A command with its arguments.
 fn command_of<'a>(alloc: Global, name: CommandName, names: Names<'a>) -> Building<'a>
     ensures { Builds result (app_of_command names.entry name) }
 {
     let arguments = name.arguments();
-    let mut command = Command::new(alloc, name.name())
-        .about(name.about())
-        .after_help(name.after_help());
+    let mut command = bare_command(alloc, name);
     for argument in arguments {
         command = command.arg(argument_of(alloc, *argument, names))?;
     }

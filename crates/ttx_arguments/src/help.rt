@@ -268,8 +268,32 @@ Statuses:
      refused: service NUMBER NAME [KEY] page N, refused: service too-long
   3  fault: file, fault: read, fault: write, fault: memory";
 
-pub(crate) const SPLICE_MORE: &str =
-    "OLD is sent again and again; then, at the end of a period, NEW is sent again and
+/// The whole help of `splice`.
+pub(crate) const SPLICE: &str = "Judges the change from an old cycle to a new one, yes or no
+
+Usage: ttx splice [OPTIONS] <OLD> <NEW> <OLDSERVICE> <NEWSERVICE>
+                  <OLDCERT> <NEWCERT>
+
+Arguments:
+  <OLD>         Packet file sent before the change: 1 to 65536 slots of 42
+                bytes; - is standard input
+  <NEW>         Packet file sent after the change: 1 to 65536 slots of 42
+                bytes; - is standard input
+  <OLDSERVICE>  Service definition of OLD: a TOML text of at most 4194304
+                bytes; - is standard input
+  <NEWSERVICE>  Service definition of NEW: a TOML text of at most 4194304
+                bytes; - is standard input
+  <OLDCERT>     Certificate of OLD: a text of at most 4194304 bytes;
+                - is standard input
+  <NEWCERT>     Certificate of NEW: a text of at most 4194304 bytes;
+                - is standard input
+
+Options:
+      --sent <PERIODS>  Whole periods for which OLD has been on the air, 0 to
+                        4294967295; without it, OLD counts as sent for ever
+  -h, --help            Print help
+
+OLD is sent again and again; then, at the end of a period, NEW is sent again and
 again, from its slot 0 on. Reads OLD, NEW, OLDSERVICE, NEWSERVICE, OLDCERT and
 NEWCERT, in this order, to their ends. Writes the verdict to standard output:
   yes                       each page that is the same in both services is seen

@@ -1,7 +1,7 @@
-use Rattle.std.proofs.Common.{◌∙◌, List, sym, subst, rules}
+use Rattle.std.proofs.Common.{◌∙◌, List, sym, subst}
 use Rattle.std.proofs.lemmas.List.{take_all}
 use Rattle.std.proofs.lemmas.List.Sums.{fold_more}
-use Rattle.clap.specs.Words.{App, Text, new_app, with_rule}
+use Rattle.clap.specs.Words.{App, new_app, with_rule}
 use Rattle.ttx_arguments.specs.Arguments.{name_of}
 use Rattle.ttx_arguments.specs.Grammar.{IsBuiltAs, rule_of_argument, with_arguments}
 use Rattle.ttx_arguments.specs.declared.arguments.Argument.{Argument}
@@ -9,7 +9,7 @@ use Rattle.ttx_arguments.proofs.Building.{one_argument}
 use Rattle.ttx_arguments.proofs.grammar.command_of.Goals as goal
 
 pub loop-argument-init : goal.loop-argument-init
-loop-argument-init c = subst (λ (t : Text). IsBuiltAs c.after_help-command.result (new_app t)) c.name.ensures (search rules)
+loop-argument-init c = c.bare_command-command.ensures
 
 pub loop-argument-preserved : goal.loop-argument-preserved
 loop-argument-preserved c =
