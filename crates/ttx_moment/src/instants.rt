@@ -1,4 +1,4 @@
-//! The moment of an instant: its date and time in UTC, and the offset of the zone.
+//! The moment of an instant.
 
 ghost use Rattle.std.specs.Prelude.{◌≡◌, SomeIff};
 ghost use Rattle.jiff.specs.Words.{plain_zone, offset_at};
@@ -15,7 +15,7 @@ fn ahead(offset: i32) -> u32
     ((i64::from(offset) + 172_800).unsigned_abs() % 86_400) as u32
 }
 
-/// The moment of an instant, for a clock that shows the time of the zone. `None` before 1970, and from MJD 100,000 on (in the year 2132).
+/// The moment of an instant, with a clock that shows the time of the zone. `None` before 1970, and from MJD 100,000 on (in the year 2132).
 pub fn moment_of(instant: Timestamp, zone: &TimeZone<'_>) -> Option<Moment>
     ensures { SomeIff result (IsOnTheAir instant.nanosecond (offset_at (plain_zone zone.now) instant.nanosecond))
         (moment_of_instant instant.nanosecond (offset_at (plain_zone zone.now) instant.nanosecond)) }

@@ -1,4 +1,4 @@
-//! The moment at which a sending begins, from an instant and a time zone, or from an ISO text.
+//! Moments of the air, from instants, ISO times and zones.
 #![tactic(auto)]
 
 mod clocks;

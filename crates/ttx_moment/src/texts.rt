@@ -31,9 +31,9 @@ fn datetime_in(text: &str) -> Option<DateTime>
     }
 }
 
-/// The instant that an ISO text names: `2026-11-25T12:00:00Z`, the same with an offset, or `2026-11-25T12:00:00` by the clock of the zone.
-/// A time that the clock shows twice means the first; one that it skips counts by the offset before the change. `None` if the text has none
-/// of these forms, or names an instant out of range.
+/// The instant that an ISO text names: `2026-11-25T12:00:00Z` and the like with an offset, or `2026-11-25T12:00:00` by the clock of the zone. A time
+/// that the clock shows twice is the earlier one, and one that it skips counts by the offset before. `None` if the text is neither, or names
+/// an instant out of range.
 pub fn read_instant(text: &str, zone: &TimeZone<'_>) -> Option<Timestamp>
     ensures { IsRead (plain_zone zone.now) text.now result }
 {
