@@ -165,6 +165,10 @@ def planned():
     return {
         "planned-info.t42": [INFO, *base(), EMPTY],
         "planned-twice.t42": [*block(1), *block(2), *block(1), time_filling(1), time_filling(2), EMPTY],
+        # page 100 in rounds 0 and 4, the others in rounds 1, 2, 3, 5 and 6, the shortest in their turn
+        "planned-spread.t42": [
+            *block(1), *block(2), *block(3), *block(4), *block(1), *block(5), *block(6), *[time_filling(mag) for mag in range(1, 7)], EMPTY,
+        ],
         "planned-suppressed.t42": [one, EMPTY, EMPTY, one_links, time_filling(1), EMPTY],
         "planned-parallel.t42": [
             first, second, EMPTY, first_links, second_links, time_filling(1, 0), time_filling(2, 0), EMPTY,
@@ -185,6 +189,7 @@ def services():
     return {
         "planned-info.toml": serial + TEST_INFO + page.format(100),
         "planned-twice.toml": serial + page.format(100) + "often = 2\n" + page.format(200),
+        "planned-spread.toml": serial + page.format(100) + "often = 2\n" + "".join(page.format(n) for n in (200, 300, 400, 500, 600)),
         "planned-suppressed.toml": serial + quiet.format(100),
         "planned-late.toml": "lines = 2\nserial = false\n" + quiet.format(100) + "often = 2\n" + quiet.format(200) + quiet.format(201),
         "planned-parallel.toml": "lines = 2\nserial = false\n" + quiet.format(100) + quiet.format(200),
