@@ -270,6 +270,17 @@ def subpages_certificate(deadline, second):
     return certificate(deadline) + entries
 
 
+def number_lacking(extra):
+    """Two blank subpages of page 100 that are sent apart, after a block with these packets between its header and a time-filling one."""
+    return [*extra, time_filling(1), *two_subpages([time_filling(1)])]
+
+
+def number_lacking_certificate(deadline, first):
+    """A certificate for two subpages, the first of which begins at this slot."""
+    entries = [certificate(deadline, at=(slot,)).split("\n", 4)[4] for slot in (first, first + 28)]
+    return certificate(deadline).split("100/0000", 1)[0] + entries[0] + entries[1].replace("/0000 ", "/0001 ")
+
+
 def turned_certificate(deadline):
     """The certificate of the worked cycle turned by ten slots."""
     lines = ["ttx certificate 1", "lines 2", "repeat 1", f"deadline {deadline}", "100/0000 head 18"]
@@ -460,6 +471,8 @@ def main():
         "alone-in-its-magazine.t42": with_slot(base(), 27, header(2, 0)),
         "subpages.t42": two_subpages([]),
         "subpages-apart.t42": two_subpages([time_filling(1)]),
+        "subpages-unwhole.t42": number_lacking([header(1, 0), EMPTY, EMPTY, *[row(1, r) for r in range(1, 23)], links(1)]),
+        "subpages-unlisted.t42": number_lacking([header(1, 0, 2)]),
         "row-5-wrong.t42": with_byte(base(), 7, 2, 0xC1),
         "row-5-wrong-again.t42": with_byte([*base(), *base()], 35, 2, 0xC1),
         "bad-slot.t42": with_byte(base(), 4, 0, 0x03),
@@ -483,6 +496,8 @@ def main():
         "base-41.cert": certificate(41),
         "subpages.cert": subpages_certificate(41, 27),
         "subpages-apart.cert": subpages_certificate(42, 28),
+        "subpages-unwhole.cert": number_lacking_certificate(55, 27),
+        "subpages-unlisted.cert": number_lacking_certificate(42, 2),
         "base-repeat-2.cert": certificate(41, 2),
         "no-row-1.cert": certificate(27, rows=range(2, 24)),
         "row-1-near.cert": certificate(27, rows=range(2, 24), more={1: "2"}),

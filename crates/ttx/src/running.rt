@@ -3,6 +3,7 @@
 mod certificates;
 mod counter_runs;
 mod cycles;
+mod feeds;
 mod inputs;
 mod screens;
 mod services;
@@ -47,6 +48,7 @@ pub fn run_order(rt: &HostRuntime, order: &Order<'_>) -> Outcome {
         Order::Splice(order) => splices::splice(rt, order),
         Order::Wait(order) => certificates::wait(rt, order),
         Order::Send { cycle, sending } => cycles::send(rt, cycle, sending),
+        Order::Monitor(order) => feeds::monitor(rt, order),
         Order::Pages { cycle } => cycles::pages(rt, cycle),
         Order::Book { cycle, out } => cycles::book(rt, cycle, out),
         Order::Extract { cycle, out, lines } => cycles::extract(rt, cycle, out, lines.count()),

@@ -7,13 +7,14 @@
 --   SecondsTexts, FindWords  seconds as fields, and texts that are none; one deadline, and two
 --   RepeatWords              a number at the end of its range, and one beyond it
 --   SpliceWords              a number that need not be there
+--   MonitorWords             a slot that need not be there, and two inputs that are standard input
 --   TwiceWords               standard input for two inputs, and for a cycle that is read twice
 use Rattle.std.specs.Prelude.{◌≡◌, ℕ, Bool, List, [], ◌∷◌, ◌++◌, Option, Some, None, Ok, Err, codes, true, false}
 use Rattle.clap.specs.Words.{Text, fault_of}
 use Rattle.clap.specs.declared.error.kind.ErrorKind.TheVariants.{DisplayVersion, ValueValidation}
 use Rattle.ttx_page.specs.declared.class.Class.TheVariants.{Any}
 use Rattle.ttx_arguments.specs.Grammar.{ttx_app}
-use Rattle.ttx_arguments.specs.Orders.{Asks, OrderView, certify_order, find_order, plan_order, send_order, splice_order, no_time, no_seconds, two_deadlines, within_and_more, named_twice}
+use Rattle.ttx_arguments.specs.Orders.{Asks, OrderView, certify_order, find_order, monitor_order, plan_order, send_order, splice_order, no_time, no_seconds, two_deadlines, within_and_more, numbers_unfit, named_twice}
 use Rattle.ttx_arguments.specs.Seconds.{fields_of}
 use Rattle.ttx_arguments.specs.declared.grammar.Names.{Names}
 
@@ -26,7 +27,7 @@ abbrev certify_texts : List Text
 certify_texts = codes "certify" ∷ codes "c" ∷ codes "s" ∷ codes "k" ∷ []
 
 abbrev certified : Bool → Bool → Option ℕ → OrderView
-certified late twice within = certify_order (codes "c") (codes "s") (codes "k") late twice within
+certified late numbers within = certify_order (codes "c") (codes "s") (codes "k") late numbers false within
 
 abbrev pub CertifyWords : Type 0
 CertifyWords =
@@ -35,6 +36,10 @@ CertifyWords =
     × Asks (ttx_app names) (certify_texts ++ codes "--within" ∷ codes "0" ∷ []) (Err no_seconds)
     × Asks (ttx_app names) (certify_texts ++ codes "--twice" ∷ codes "--within=0.5" ∷ []) (Err within_and_more)
     × Asks (ttx_app names) (certify_texts ++ codes "--within" ∷ codes "1" ∷ codes "--late" ∷ []) (Err within_and_more)
+    × Asks (ttx_app names) (certify_texts ++ codes "--numbers" ∷ codes "--late" ∷ []) (Ok (certified true true None))
+    × Asks (ttx_app names) (certify_texts ++ codes "--numbers" ∷ []) (Err numbers_unfit)
+    × Asks (ttx_app names) (certify_texts ++ codes "--late" ∷ codes "--numbers" ∷ codes "--twice" ∷ []) (Err numbers_unfit)
+    × Asks (ttx_app names) (certify_texts ++ codes "--late" ∷ codes "--numbers" ∷ codes "--within" ∷ codes "1" ∷ []) (Err numbers_unfit)
 
 abbrev pub SendWords : Type 0
 SendWords =
@@ -97,6 +102,16 @@ SpliceWords =
     × Asks (ttx_app names) (splice_texts ++ codes "--sent" ∷ codes "0" ∷ []) (Ok (splice_sent (Some 0)))
     × Asks (ttx_app names) (splice_texts ++ codes "--sent" ∷ codes "4294967295" ∷ []) (Ok (splice_sent (Some 4294967295)))
     × (fault_of (ttx_app names) (splice_texts ++ codes "--sent" ∷ codes "4294967296" ∷ []) ≡ ValueValidation ∷ [])
+
+abbrev monitor_texts : List Text
+monitor_texts = codes "monitor" ∷ codes "c" ∷ codes "s" ∷ codes "k" ∷ codes "-" ∷ []
+
+abbrev pub MonitorWords : Type 0
+MonitorWords =
+    (names : Names) → Asks (ttx_app names) monitor_texts (Ok (monitor_order (codes "c") (codes "s") (codes "k") (codes "-") None))
+    × Asks (ttx_app names) (monitor_texts ++ codes "--start=0" ∷ []) (Ok (monitor_order (codes "c") (codes "s") (codes "k") (codes "-") (Some 0)))
+    × Asks (ttx_app names) (codes "monitor" ∷ codes "-" ∷ codes "s" ∷ codes "k" ∷ codes "-" ∷ []) (Err named_twice)
+    × (fault_of (ttx_app names) (monitor_texts ++ codes "--start=65536" ∷ []) ≡ ValueValidation ∷ [])
 
 abbrev pub TwiceWords : Type 0
 TwiceWords =

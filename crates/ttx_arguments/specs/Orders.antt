@@ -10,7 +10,7 @@
 --   Asks                     what the program is asked for by words
 --   Refuses, Answers         what is answered for words
 --   IsFaultOf, IsSettled     an error of `clap` by its own name, and what is made of it
-use Rattle.std.specs.Prelude.{◌≡◌, ◌≢◌, ◌≤◌, ◌⊎◌, ℕ, Bool, ◌&&◌, ◌||◌, List, [], ◌∷◌, ⊤, Option, Some, None, option_map, option_and_then, Result, Ok, Err, codes}
+use Rattle.std.specs.Prelude.{◌≡◌, ◌≢◌, ◌≤◌, ◌⊎◌, ℕ, Bool, true, false, not, ◌&&◌, ◌||◌, List, [], ◌∷◌, ⊤, Option, Some, None, option_map, option_and_then, Result, Ok, Err, codes}
 use Rattle.std.specs.Prelude.{unwrap_or, length, count_by, nat_lt, nat_le, if◌then◌else◌}
 use Rattle.std.specs.List.{list_all}
 use Rattle.std.specs.Str.{bytes_eq}
@@ -39,13 +39,13 @@ use Rattle.ttx_arguments.specs.declared.command_names.CommandName.TheVariants as
 use Rattle.ttx_arguments.specs.declared.orders.Look.{Look}
 use Rattle.ttx_arguments.specs.declared.orders.Order.{Order}
 use Rattle.ttx_arguments.specs.declared.orders.Order.TheVariants.{Inspect, Plan, Find, Certify, Refute, Replay, Receive, Show, Preview, Splice, Wait}
-use Rattle.ttx_arguments.specs.declared.orders.Order.TheVariants.{Send, Pages, Book, Extract, Check, Version}
+use Rattle.ttx_arguments.specs.declared.orders.Order.TheVariants.{Send, Monitor, Pages, Book, Extract, Check, Version}
 use Rattle.ttx_arguments.specs.declared.orders.ReceiverKind.{ReceiverKind}
 use Rattle.ttx_arguments.specs.declared.orders.ReceiverKind.TheVariants.{Eager, Careful, Cleared}
 use Rattle.ttx_arguments.specs.declared.orders.Sending.{Sending}
 use Rattle.ttx_arguments.specs.declared.orders.Tuning.{Tuning}
 use Rattle.ttx_arguments.specs.declared.orders.WordsFault.{WordsFault}
-use Rattle.ttx_arguments.specs.declared.orders.WordsFault.TheVariants.{Refused, Page, Time, Seconds, Deadlines, Within, Twice, NoMemory}
+use Rattle.ttx_arguments.specs.declared.orders.WordsFault.TheVariants.{Refused, Page, Time, Seconds, Deadlines, Within, Numbers, Twice, NoMemory}
 
 -- how a page is shown, its name as bytes
 pub record LookView : Type 0 where
@@ -61,7 +61,7 @@ pub data OrderView : Type 0 where
   inspect_order : (file : Text) → OrderView
   plan_order : (service out : Text) → (class : Class) → (late spread : Bool) → OrderView
   find_order : (cycle service out : Text) → (repeat : ℕ) → (class : Class) → (deadline : Option ℕ) → OrderView
-  certify_order : (cycle service certificate : Text) → (late twice : Bool) → (within : Option ℕ) → OrderView
+  certify_order : (cycle service certificate : Text) → (late numbers twice : Bool) → (within : Option ℕ) → OrderView
   refute_order : (cycle service certificate : Text) → (save : Option Text) → OrderView
   replay_order : (cycle service counter : Text) → OrderView
   receive_order : (cycle : Text) → (tuning : Tuning) → OrderView
@@ -70,6 +70,7 @@ pub data OrderView : Type 0 where
   splice_order : (old new old_service new_service old_certificate new_certificate : Text) → (sent : Option ℕ) → OrderView
   wait_order : (cycle service : Text) → (repeat : ℕ) → (class : Class) → (items : Bool) → OrderView
   send_order : (cycle : Text) → (sending : Sending) → OrderView
+  monitor_order : (cycle service certificate feed : Text) → (start : Option ℕ) → OrderView
   pages_order : (cycle : Text) → OrderView
   book_order : (cycle out : Text) → OrderView
   extract_order : (cycle out : Text) → (lines : ℕ) → OrderView
@@ -80,7 +81,7 @@ abbrev pub order_view : Order → OrderView
 order_view (Inspect file) = inspect_order file.now
 order_view (Plan o) = plan_order o.service.now o.out.now o.class o.late o.spread
 order_view (Find o) = find_order o.cycle.now o.service.now o.out.now o.repeat o.class o.deadline
-order_view (Certify o) = certify_order o.cycle.now o.service.now o.certificate.now o.late o.twice o.within
+order_view (Certify o) = certify_order o.cycle.now o.service.now o.certificate.now o.late o.numbers o.twice o.within
 order_view (Refute o) = refute_order o.cycle.now o.service.now o.certificate.now (option_map (λ s. s.now) o.save)
 order_view (Replay o) = replay_order o.cycle.now o.service.now o.counter.now
 order_view (Receive cycle tuning) = receive_order cycle.now tuning
@@ -90,6 +91,7 @@ order_view (Splice o) =
     splice_order o.old.now o.new.now o.old_service.now o.new_service.now o.old_certificate.now o.new_certificate.now o.sent
 order_view (Wait o) = wait_order o.cycle.now o.service.now o.repeat o.class o.items
 order_view (Send cycle sending) = send_order cycle.now sending
+order_view (Monitor o) = monitor_order o.cycle.now o.service.now o.certificate.now o.feed.now o.start
 order_view (Pages cycle) = pages_order cycle.now
 order_view (Book cycle out) = book_order cycle.now out.now
 order_view (Extract cycle out lines) = extract_order cycle.now out.now lines
@@ -167,6 +169,7 @@ pub data Unfit : Type 0 where
   no_seconds : Unfit
   two_deadlines : Unfit
   within_and_more : Unfit
+  numbers_unfit : Unfit
   named_twice : Unfit
 
 abbrev pub tuning_asked : Selection → List Row → Tuning
@@ -222,7 +225,7 @@ find_at rows = find_by (number_given argument.Deadline rows) (given_at argument.
 abbrev pub certify_with : Option ℕ → List Row → OrderView
 certify_with within rows =
     certify_order (text_at argument.Cycle rows) (text_at argument.Service rows) (text_at argument.Certificate rows)
-    (is_set argument.Late rows) (is_set argument.Twice rows) within
+    (is_set argument.Late rows) (is_set argument.Numbers rows) (is_set argument.Twice rows) within
 
 abbrev pub certify_required : Option ℕ → List Row → Result OrderView Unfit
 certify_required None rows = Err no_seconds
@@ -234,13 +237,20 @@ certify_within seconds rows =
     if is_set argument.Late rows || is_set argument.Twice rows then Err within_and_more
     else certify_required (fields_of seconds) rows
 
--- seconds are not needed
-abbrev pub certify_by : Option Text → List Row → Result OrderView Unfit
-certify_by None rows = Ok (certify_with None rows)
-certify_by (Some seconds) rows = certify_within seconds rows
+-- page numbers go with late receivers, and not with a cycle that is read twice
+abbrev pub certify_numbers : List Row → Result OrderView Unfit
+certify_numbers rows =
+    if is_set argument.Late rows && not (is_set argument.Twice rows) then Ok (certify_with None rows) else Err numbers_unfit
+
+-- whether page numbers are asked for, and seconds, which do not go together
+abbrev pub certify_by : Bool → Option Text → List Row → Result OrderView Unfit
+certify_by false None rows = Ok (certify_with None rows)
+certify_by false (Some seconds) rows = certify_within seconds rows
+certify_by true None rows = certify_numbers rows
+certify_by true (Some seconds) rows = Err numbers_unfit
 
 abbrev pub certify_at : List Row → Result OrderView Unfit
-certify_at rows = certify_by (given_at argument.Within rows) rows
+certify_at rows = certify_by (is_set argument.Numbers rows) (given_at argument.Within rows) rows
 
 abbrev pub refute_at : List Row → OrderView
 refute_at rows =
@@ -267,6 +277,11 @@ abbrev pub wait_at : List Row → OrderView
 wait_at rows =
     wait_order (text_at argument.Cycle rows) (text_at argument.Service rows) (repeat_at rows)
     (class_named (text_at argument.Class rows)) (is_set argument.Items rows)
+
+abbrev pub monitor_at : List Row → OrderView
+monitor_at rows =
+    monitor_order (text_at argument.Cycle rows) (text_at argument.Service rows) (text_at argument.Certificate rows) (text_at argument.Feed rows)
+    (number_given argument.FeedStart rows)
 
 abbrev pub pages_at : List Row → OrderView
 pages_at rows = pages_order (text_at argument.Cycle rows)
@@ -323,6 +338,7 @@ order_by command.Preview rows = preview_at rows
 order_by command.Splice rows = Ok (splice_asked rows)
 order_by command.Wait rows = Ok (wait_at rows)
 order_by command.Send rows = send_at rows
+order_by command.Monitor rows = Ok (monitor_at rows)
 order_by command.Pages rows = Ok (pages_at rows)
 order_by command.Book rows = Ok (book_at rows)
 order_by command.Extract rows = Ok (extract_at rows)
@@ -362,6 +378,7 @@ AnswersBy app words (Err Time) = Asks app words (Err no_time)
 AnswersBy app words (Err Seconds) = Asks app words (Err no_seconds)
 AnswersBy app words (Err Deadlines) = Asks app words (Err two_deadlines)
 AnswersBy app words (Err Within) = Asks app words (Err within_and_more)
+AnswersBy app words (Err Numbers) = Asks app words (Err numbers_unfit)
 AnswersBy app words (Err Twice) = Asks app words (Err named_twice)
 AnswersBy app words (Err NoMemory) = ⊤
 
@@ -377,6 +394,7 @@ IsOrderOf (Err Time) answer = answer ≡ Err no_time
 IsOrderOf (Err Seconds) answer = answer ≡ Err no_seconds
 IsOrderOf (Err Deadlines) answer = answer ≡ Err two_deadlines
 IsOrderOf (Err Within) answer = answer ≡ Err within_and_more
+IsOrderOf (Err Numbers) answer = answer ≡ Err numbers_unfit
 IsOrderOf (Err (Refused error)) answer = ⊥
 IsOrderOf (Err Twice) answer = answer ≡ Err named_twice
 IsOrderOf (Err NoMemory) answer = ⊥
@@ -389,6 +407,7 @@ IsRefusalOf Time kinds = ⊥
 IsRefusalOf Seconds kinds = ⊥
 IsRefusalOf Deadlines kinds = ⊥
 IsRefusalOf Within kinds = ⊥
+IsRefusalOf Numbers kinds = ⊥
 IsRefusalOf Twice kinds = ⊥
 IsRefusalOf NoMemory kinds = ⊤
 
@@ -400,6 +419,7 @@ IsFaultOf Time e = ⊥
 IsFaultOf Seconds e = ⊥
 IsFaultOf Deadlines e = ⊥
 IsFaultOf Within e = ⊥
+IsFaultOf Numbers e = ⊥
 IsFaultOf Twice e = ⊥
 IsFaultOf NoMemory e = kind_of e ≡ OutOfMemory
 
@@ -413,5 +433,6 @@ IsSettled Time (Err Time) = ⊤
 IsSettled Seconds (Err Seconds) = ⊤
 IsSettled Deadlines (Err Deadlines) = ⊤
 IsSettled Within (Err Within) = ⊤
+IsSettled Numbers (Err Numbers) = ⊤
 IsSettled Twice (Err Twice) = ⊤
 IsSettled _ _ = ⊥

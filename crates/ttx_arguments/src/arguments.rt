@@ -25,6 +25,7 @@ pub enum Argument {
     Service,
     Certificate,
     Counter,
+    Feed,
     Page,
     Planned,
     Found,
@@ -43,6 +44,7 @@ pub enum Argument {
     Lines,
     NeededLines,
     Start,
+    FeedStart,
     Slots,
     Fields,
     Phase,
@@ -55,6 +57,7 @@ pub enum Argument {
     PlannedLate,
     Spread,
     Late,
+    Numbers,
     Twice,
     Reveal,
     Items,
@@ -71,6 +74,7 @@ impl Argument {
             Argument::Service => "service",
             Argument::Certificate => "certificate",
             Argument::Counter => "counter",
+            Argument::Feed => "feed",
             Argument::Page => "page",
             Argument::Planned | Argument::Found | Argument::Book | Argument::Extracted => "out",
             Argument::Old => "old",
@@ -84,7 +88,7 @@ impl Argument {
             Argument::Form => "as",
             Argument::Repeat => "repeat",
             Argument::Lines | Argument::NeededLines => "lines",
-            Argument::Start => "start",
+            Argument::Start | Argument::FeedStart => "start",
             Argument::Slots => "slots",
             Argument::Fields => "fields",
             Argument::Phase => "phase",
@@ -96,6 +100,7 @@ impl Argument {
             Argument::At => "at",
             Argument::PlannedLate | Argument::Late => "late",
             Argument::Spread => "spread",
+            Argument::Numbers => "numbers",
             Argument::Twice => "twice",
             Argument::Reveal => "reveal",
             Argument::Items => "items",
@@ -110,6 +115,7 @@ impl Argument {
             Argument::Service => "SERVICE",
             Argument::Certificate => "CERT",
             Argument::Counter => "COUNTER",
+            Argument::Feed => "FEED",
             Argument::Page => "PAGE",
             Argument::Planned
             | Argument::Found
@@ -127,7 +133,7 @@ impl Argument {
             Argument::Form => "FORM",
             Argument::Repeat => "K",
             Argument::Lines | Argument::NeededLines => "L",
-            Argument::Start => "S",
+            Argument::Start | Argument::FeedStart => "S",
             Argument::Slots | Argument::Fields => "N",
             Argument::Phase => "F",
             Argument::Offset => "HALVES",
@@ -138,6 +144,7 @@ impl Argument {
             Argument::PlannedLate
             | Argument::Spread
             | Argument::Late
+            | Argument::Numbers
             | Argument::Twice
             | Argument::Reveal
             | Argument::Items => "",
@@ -151,6 +158,7 @@ impl Argument {
             Argument::Service => help::SERVICE_OPERAND,
             Argument::Certificate => help::CERTIFICATE_OPERAND,
             Argument::Counter => help::COUNTER_OPERAND,
+            Argument::Feed => help::FEED_OPERAND,
             Argument::Page => help::PAGE_OPERAND,
             Argument::Planned => help::PLANNED_OPERAND,
             Argument::Found => help::FOUND_OPERAND,
@@ -169,6 +177,7 @@ impl Argument {
             Argument::Lines => help::LINES_OPTION,
             Argument::NeededLines => help::NEEDED_LINES_OPTION,
             Argument::Start => help::START_OPTION,
+            Argument::FeedStart => help::FEED_START_OPTION,
             Argument::Slots => help::SLOTS_OPTION,
             Argument::Fields => help::FIELDS_OPTION,
             Argument::Phase => help::PHASE_OPTION,
@@ -181,6 +190,7 @@ impl Argument {
             Argument::PlannedLate => help::PLANNED_LATE_OPTION,
             Argument::Spread => help::SPREAD_OPTION,
             Argument::Late => help::LATE_OPTION,
+            Argument::Numbers => help::NUMBERS_OPTION,
             Argument::Twice => help::TWICE_OPTION,
             Argument::Reveal => help::REVEAL_OPTION,
             Argument::Items => help::ITEMS_OPTION,
@@ -197,7 +207,7 @@ impl Argument {
             Argument::Form => Takes::Form,
             Argument::Repeat => Takes::Number(1, 8),
             Argument::Lines | Argument::NeededLines => Takes::Number(1, 32),
-            Argument::Start => Takes::Number(0, 65_535),
+            Argument::Start | Argument::FeedStart => Takes::Number(0, 65_535),
             Argument::Slots => Takes::Number(0, 1_000_000),
             Argument::Fields | Argument::Phase | Argument::Sent => Takes::Number(0, 4_294_967_295),
             Argument::Offset => Takes::Number(0, 47),
@@ -206,6 +216,7 @@ impl Argument {
             Argument::PlannedLate
             | Argument::Spread
             | Argument::Late
+            | Argument::Numbers
             | Argument::Twice
             | Argument::Reveal
             | Argument::Items => Takes::Nothing,
@@ -233,6 +244,7 @@ impl Argument {
             | Argument::Service
             | Argument::Certificate
             | Argument::Counter
+            | Argument::Feed
             | Argument::Old
             | Argument::New
             | Argument::OldService

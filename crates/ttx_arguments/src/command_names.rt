@@ -21,6 +21,7 @@ pub enum CommandName {
     Splice,
     Wait,
     Send,
+    Monitor,
     Pages,
     Book,
     Extract,
@@ -29,7 +30,7 @@ pub enum CommandName {
 }
 
 /// The commands, as help lists them.
-pub static COMMANDS: [CommandName; 17] = [
+pub static COMMANDS: [CommandName; 18] = [
     CommandName::Inspect,
     CommandName::Plan,
     CommandName::Find,
@@ -42,6 +43,7 @@ pub static COMMANDS: [CommandName; 17] = [
     CommandName::Splice,
     CommandName::Wait,
     CommandName::Send,
+    CommandName::Monitor,
     CommandName::Pages,
     CommandName::Book,
     CommandName::Extract,
@@ -67,6 +69,7 @@ impl CommandName {
             CommandName::Splice => "splice",
             CommandName::Wait => "wait",
             CommandName::Send => "send",
+            CommandName::Monitor => "monitor",
             CommandName::Pages => "pages",
             CommandName::Book => "book",
             CommandName::Extract => "extract",
@@ -96,6 +99,7 @@ impl CommandName {
             CommandName::Wait =>
                 "Prints the longest wait for each page, and the item that causes it",
             CommandName::Send => "Sends a cycle again and again, with the time, to standard output",
+            CommandName::Monitor => "Judges what a receiver got of a cycle, yes or no",
             CommandName::Pages =>
                 "Lists the pages of a cycle, and what is sent under their headers",
             CommandName::Book => "Writes all pages of a cycle to OUT, as one HTML file",
@@ -122,6 +126,7 @@ impl CommandName {
             CommandName::Splice => help::SPLICE,
             CommandName::Wait => help::WAIT_MORE,
             CommandName::Send => help::SEND_MORE,
+            CommandName::Monitor => help::MONITOR_MORE,
             CommandName::Pages => help::PAGES_MORE,
             CommandName::Book => help::BOOK_MORE,
             CommandName::Extract => help::EXTRACT_MORE,
@@ -149,7 +154,7 @@ impl CommandName {
             ],
             CommandName::Certify => &[
                 Argument::Cycle, Argument::Service, Argument::Certificate,
-                Argument::Late, Argument::Twice, Argument::Within,
+                Argument::Late, Argument::Numbers, Argument::Twice, Argument::Within,
             ],
             CommandName::Refute => &[Argument::Cycle, Argument::Service, Argument::Certificate, Argument::Save],
             CommandName::Replay => &[Argument::Cycle, Argument::Service, Argument::Counter],
@@ -165,6 +170,10 @@ impl CommandName {
             ],
             CommandName::Wait => &[Argument::Cycle, Argument::Service, Argument::Repeat, Argument::Class, Argument::Items],
             CommandName::Send => &[Argument::Cycle, Argument::At, Argument::Fields, Argument::Lines, Argument::Phase, Argument::Offset],
+            CommandName::Monitor => &[
+                Argument::Cycle, Argument::Service, Argument::Certificate,
+                Argument::Feed, Argument::FeedStart,
+            ],
             CommandName::Pages => &[Argument::Cycle],
             CommandName::Book => &[Argument::Cycle, Argument::Book],
             CommandName::Extract => &[Argument::Cycle, Argument::Extracted, Argument::NeededLines],

@@ -5,15 +5,15 @@ ghost use Rattle.clap.specs.Words.{rows_of, found_of};
 ghost use Rattle.ttx_arguments.specs.Arguments.{is_input};
 ghost use Rattle.ttx_arguments.specs.Orders as rule;
 ghost use Rattle.ttx_arguments.specs.Orders.{order_view, inspect_at, plan_at, find_at, certify_at, refute_at, replay_at, receive_at, show_at};
-ghost use Rattle.ttx_arguments.specs.Orders.{preview_at, splice_asked, wait_at, send_at, pages_at, book_at, extract_at, check_at, IsOrderOf};
+ghost use Rattle.ttx_arguments.specs.Orders.{preview_at, splice_asked, wait_at, send_at, monitor_at, pages_at, book_at, extract_at, check_at, IsOrderOf};
 ghost use Rattle.ttx_arguments.specs.Orders.{is_standard, is_cycle_twice};
 
 use crate::arguments::Argument;
 use crate::command_names::CommandName;
 use crate::moments::moment_of;
 use crate::orders::{
-    CertifyOrder, FindOrder, Order, PlanOrder, RefuteOrder, ReplayOrder, SpliceOrder, WaitOrder,
-    WordsFault,
+    CertifyOrder, FindOrder, MonitorOrder, Order, PlanOrder, RefuteOrder, ReplayOrder, SpliceOrder,
+    WaitOrder, WordsFault,
 };
 use crate::page_names::selection;
 use crate::ranges::Fields;
@@ -151,6 +151,7 @@ fn certify_with<'a>(values: &ArgMatches<'a>, within: Option<Fields>) -> Order<'a
         service: text_of(values, Argument::Service),
         certificate: text_of(values, Argument::Certificate),
         late: is_set(values, Argument::Late),
+        numbers: is_set(values, Argument::Numbers),
         twice: is_set(values, Argument::Twice),
         within,
     })
@@ -169,12 +170,28 @@ fn certify_within<'a>(values: &ArgMatches<'a>, seconds: &str) -> Result<Order<'a
     }
 }
 
+// The same for page numbers, which go with late receivers, and not with a cycle that is read twice.
+fn certify_numbers<'a>(values: &ArgMatches<'a>) -> Result<Order<'a>, WordsFault>
+    ensures { IsOrderOf result (rule.certify_numbers (rows_of (found_of values.now))) }
+{
+    if is_set(values, Argument::Late) && !is_set(values, Argument::Twice) {
+        Ok(certify_with(values, None))
+    } else {
+        Err(WordsFault::Numbers)
+    }
+}
+
 pub(crate) fn certify_of<'a>(values: &ArgMatches<'a>) -> Result<Order<'a>, WordsFault>
     ensures { IsOrderOf result (certify_at (rows_of (found_of values.now))) }
 {
-    match given(values, Argument::Within) {
-        None => Ok(certify_with(values, None)),
-        Some(text) => certify_within(values, text),
+    match (
+        is_set(values, Argument::Numbers),
+        given(values, Argument::Within),
+    ) {
+        (false, None) => Ok(certify_with(values, None)),
+        (false, Some(text)) => certify_within(values, text),
+        (true, None) => certify_numbers(values),
+        (true, Some(_)) => Err(WordsFault::Numbers),
     }
 }
 
@@ -222,6 +239,18 @@ pub(crate) fn wait_of<'a>(values: &ArgMatches<'a>) -> Order<'a>
         repeat: repeat_of(values),
         class: class_of(values),
         items: is_set(values, Argument::Items),
+    })
+}
+
+pub(crate) fn monitor_of<'a>(values: &ArgMatches<'a>) -> Order<'a>
+    ensures { order_view result ≡ monitor_at (rows_of (found_of values.now)) }
+{
+    Order::Monitor(MonitorOrder {
+        cycle: text_of(values, Argument::Cycle),
+        service: text_of(values, Argument::Service),
+        certificate: text_of(values, Argument::Certificate),
+        feed: text_of(values, Argument::Feed),
+        start: given_number(values, Argument::FeedStart),
     })
 }
 

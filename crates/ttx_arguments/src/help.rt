@@ -21,6 +21,7 @@ Plan and certify:
 Go on air:
   send     Sends a cycle again and again, with the time, to standard output
   splice   Judges the change from an old cycle to a new one, yes or no
+  monitor  Judges what a receiver got of a cycle, yes or no
 
 Look into a packet file:
   inspect  Writes one line for each slot of a packet file to standard output
@@ -142,6 +143,20 @@ If after a header of a page the next header in its magazine has the same page
 number, the verdict is, if there is no other reason,
   no 13 never-shown PAGE SLOT
                      the first such header
+With --numbers, which goes with --late alone, a yes means also that viewers who
+key a page number with several pages see each of them in turn, whole, if their
+receivers show a page only when another page number ends it and all text is
+received right. A line follows for each such number:
+  number MPP pages N every E slots stays S
+                     within E slots after tuning each of the N pages is shown,
+                     within E slots it is shown again, and for S slots at least
+Otherwise the verdict is, if there is no other reason, one of
+  no 14 unwhole PAGE ITEM SLOT
+                     after the header in slot SLOT, ITEM of PAGE does not come
+                     before the page may end
+  no 15 unlisted MPP SLOT
+                     the header in slot SLOT is of the number, and of no page of
+                     SERVICE
 --within cannot be combined with --late or --twice. With it, a yes also means
 that pages are seen within SECONDS. Otherwise the answer is, if there is no
 other reason, one of
@@ -154,13 +169,17 @@ Statuses:
   0  yes
   1  no
   2  error: .. (the arguments), refused: seconds,
-     refused: within (with --late or --twice), refused: twice,
-     refused: cycle NUMBER NAME [REST],
+     refused: within (with --late or --twice),
+     refused: numbers (without --late, or with --within or --twice),
+     refused: twice, refused: cycle NUMBER NAME [REST],
      refused: service NUMBER NAME [KEY] page N, refused: service too-long,
      refused: certificate NUMBER NAME [line N], refused: certificate too-long
   3  fault: file, fault: read, fault: write, fault: memory";
 
 pub(crate) const LATE_OPTION: &str = "Judge also for receivers that may show a page late";
+
+pub(crate) const NUMBERS_OPTION: &str = "With --late: judge also for viewers who key a number
+that several pages have";
 
 pub(crate) const REFUTE_MORE: &str =
     "Reads CYCLE, SERVICE and CERT, in this order, to their ends. CERT must
@@ -385,6 +404,53 @@ Statuses:
      refused: cycle 3 empty, refused: cycle 4 too-long
   3  fault: file, fault: read, fault: write (also if the reader of a pipe has
      gone), fault: memory";
+
+pub(crate) const MONITOR_MORE: &str =
+    "Reads CYCLE, SERVICE and CERT, in this order, to their ends, and then FEED slot
+by slot; memory does not grow with FEED. FEED is what a receiver got of CYCLE,
+sent again and again: slots of 42 bytes from any slot of CYCLE on, an empty line
+as 42 zero bytes. Reads to the end of FEED, or to the first slot that breaks the
+error rule. Writes the verdict to standard output, one of
+  yes start S slots N wrong B streak W
+      FEED begins with slot S of CYCLE and has N slots; B bytes were wrong, and
+      no text byte in more than W successive transmissions
+  no slot I byte X start S
+      byte X of slot I of FEED has two wrong bits or more
+  no slot I lost start S
+      a packet was sent, and an empty line received
+  no slot I unlike start S
+      an empty line was sent, and something else received
+  no repeat PAGE ITEM byte X slot I start S
+      this text byte was wrong in K successive transmissions, at last in slot I
+A yes is followed by the line
+  rest R bytes
+      if R bytes, fewer than a slot has, come after the last slot
+
+The error rule is that of CERT: a slot is received as it was sent, with one
+wrong bit in a byte at most, and of K successive transmissions of a text byte at
+least one is right, where K is repeat in CERT. Clocks in page headers and
+packets 8/30 may be anything. If certify says yes to CYCLE, SERVICE and CERT,
+a yes means that every permitted receiver that got FEED shows each page from the
+deadline on.
+
+Without --start, S is the slot with which the fewest slots of the first period
+of FEED differ from CYCLE, the first of several.
+
+Statuses:
+  0  yes
+  1  no
+  2  error: .. (the arguments), refused: twice,
+     refused: cycle NUMBER NAME [REST],
+     refused: service NUMBER NAME [KEY] page N, refused: service too-long,
+     refused: certificate NUMBER NAME [line N], refused: certificate too-long
+  3  fault: file, fault: read, fault: write, fault: memory";
+
+pub(crate) const FEED_OPERAND: &str =
+    "Packet file of any number of slots of 42 bytes, also 0, from a
+receiver; - is standard input";
+
+pub(crate) const FEED_START_OPTION: &str = "Slot of CYCLE with which FEED begins, 0 to 65535, round
+the cycle; without it, it is found from FEED";
 
 pub(crate) const PAGES_MORE: &str =
     "Reads CYCLE to its end, then writes a line for each page that has a header, in

@@ -1,6 +1,6 @@
 //! What some words ask for, computed from the definitions: examples that hold the grammar and the orders to what a user types.
 
-ghost use Rattle.ttx_arguments.specs.Examples.{VersionWords, CertifyWords, SendWords, PlanWords, SecondsTexts, FindWords, RepeatWords, SpliceWords, TwiceWords};
+ghost use Rattle.ttx_arguments.specs.Examples.{VersionWords, CertifyWords, SendWords, PlanWords, SecondsTexts, FindWords, RepeatWords, SpliceWords, MonitorWords, TwiceWords};
 
 /// `--version` and `-V` ask for the version, also before other words.
 pub fn version_words()
@@ -8,7 +8,7 @@ pub fn version_words()
 {}
 
 /// `certify` with `--late` asks for the verdict on late receivers, and not to read the cycle twice; half a second is 25 fields, and goes
-/// with neither `--twice` nor `--late`.
+/// with neither `--twice` nor `--late`; `--numbers` goes with `--late` alone.
 pub fn certify_words()
     ensures { CertifyWords }
 {}
@@ -41,6 +41,11 @@ pub fn repeat_words()
 /// `splice` takes the periods for which OLD has been on the air, and no number of them is not 0.
 pub fn splice_words()
     ensures { SpliceWords }
+{}
+
+/// `monitor` takes the slot with which the feed begins, and no slot is not 0; the feed is an input.
+pub fn monitor_words()
+    ensures { MonitorWords }
 {}
 
 /// Two inputs cannot both be standard input, nor can a cycle that is read twice.

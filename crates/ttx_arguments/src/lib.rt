@@ -16,13 +16,13 @@ mod seconds;
 mod values;
 
 pub use laws::{
-    certify_words, find_words, plan_words, repeat_words, seconds_texts, send_words, splice_words,
-    twice_words, version_words,
+    certify_words, find_words, monitor_words, plan_words, repeat_words, seconds_texts, send_words,
+    splice_words, twice_words, version_words,
 };
 pub use moments::Moment;
 pub use orders::{
-    CertifyOrder, FindOrder, Look, Order, PlanOrder, ReceiverKind, RefuteOrder, ReplayOrder,
-    Sending, SpliceOrder, Tuning, WaitOrder, WordsFault,
+    CertifyOrder, FindOrder, Look, MonitorOrder, Order, PlanOrder, ReceiverKind, RefuteOrder,
+    ReplayOrder, Sending, SpliceOrder, Tuning, WaitOrder, WordsFault,
 };
 pub use parsing::words;
 pub use ranges::{Fields, Lines, Offset, Repeat};

@@ -81,6 +81,8 @@ pub struct CertifyOrder<'a> {
     pub certificate: &'a str,
     /// For receivers that may show pages late, too.
     pub late: bool,
+    /// For viewers who key a page number alone, too; only with `late`.
+    pub numbers: bool,
     /// Whether the cycle is read twice, slot by slot; not with `late`.
     pub twice: bool,
     /// The deadline that the certificate has to promise, for the lines of the service; without it, any. Not with `late` or `twice`.
@@ -129,6 +131,18 @@ pub struct WaitOrder<'a> {
     pub items: bool,
 }
 
+/// What `monitor` is asked for.
+#[derive(Clone, Copy)]
+pub struct MonitorOrder<'a> {
+    pub cycle: &'a str,
+    pub service: &'a str,
+    pub certificate: &'a str,
+    /// What a receiver got.
+    pub feed: &'a str,
+    /// The slot of the cycle with which the feed begins; without it, it is found from the feed.
+    pub start: Option<u32>,
+}
+
 /// A command with its values.
 #[derive(Clone, Copy)]
 pub enum Order<'a> {
@@ -172,6 +186,8 @@ pub enum Order<'a> {
         cycle: &'a str,
         sending: Sending,
     },
+    /// Judge what a receiver got of a cycle.
+    Monitor(MonitorOrder<'a>),
     /// Tell which pages a cycle has.
     Pages {
         cycle: &'a str,
@@ -214,4 +230,6 @@ pub enum WordsFault {
     Deadlines,
     /// 8. `certify` is asked for a time within which pages are seen, and for late receivers or to read the cycle twice.
     Within,
+    /// 9. `certify` is asked for page numbers, but not for late receivers, or for a time within which pages are seen, or to read the cycle twice.
+    Numbers,
 }

@@ -9,8 +9,8 @@ ghost use Rattle.ttx_arguments.specs.Arguments.{named_in, command_named};
 
 use crate::command_names::{COMMANDS, CommandName};
 use crate::commands::{
-    book_of, certify_of, check_of, extract_of, find_of, inspect_of, is_twice, pages_of, plan_of,
-    preview_of, receive_of, refute_of, replay_of, send_of, show_of, splice_of, wait_of,
+    book_of, certify_of, check_of, extract_of, find_of, inspect_of, is_twice, monitor_of, pages_of,
+    plan_of, preview_of, receive_of, refute_of, replay_of, send_of, show_of, splice_of, wait_of,
 };
 use crate::grammar::{Names, option_names, ttx};
 use crate::orders::{Order, WordsFault};
@@ -55,6 +55,7 @@ fn order_by<'a>(command: CommandName, values: &ArgMatches<'a>) -> Result<Order<'
         CommandName::Splice => Ok(splice_of(values)),
         CommandName::Wait => Ok(wait_of(values)),
         CommandName::Send => send_of(values),
+        CommandName::Monitor => Ok(monitor_of(values)),
         CommandName::Pages => Ok(pages_of(values)),
         CommandName::Book => Ok(book_of(values)),
         CommandName::Extract => Ok(extract_of(values)),

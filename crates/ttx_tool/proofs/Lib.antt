@@ -13,6 +13,7 @@ mod TooLong
 mod ThreeInputs
 mod ServiceIds
 mod ReplayInputs
+mod MonitoredFeeds
 mod ShownFile
 mod CertificateLengths
 mod NamedSlots

@@ -10,7 +10,7 @@ use Rattle.ttx_tool.specs.Receive.{Tuning}
 use Rattle.ttx_tool.specs.Reports.{Reports}
 use Rattle.ttx_tool.specs.Show.{shown_text, shown_status, IsShownFile, HearsFile, ShowsFile}
 use Rattle.ttx_tool.specs.declared.faults.ToolFault.{ToolFault}
-use Rattle.ttx_tool.specs.declared.faults.ToolFault.TheVariants.{Files, Plan, Class, Same, Counter}
+use Rattle.ttx_tool.specs.declared.faults.ToolFault.TheVariants.{Files, Plan, Class, Same, Counter, Feed}
 
 keeps_same : (known : Option (List ℕ)) → Keeps known known
 keeps_same None = tt
@@ -45,6 +45,7 @@ module _ (t : Tuning) (holds : List (List ℕ) → Memory) (start count : ℕ) (
   told after bytes is (Err Class) h = absurd h
   told after bytes is (Err Same) h = absurd h
   told after bytes is (Err (Counter f)) h = absurd h
+  told after bytes is (Err Feed) h = absurd h
 
   pub shows_of : (after : Option (List ℕ)) (a : Option (List ℕ)) → IfSome a (λ x. IsShownFile t holds start count x held new) → (memory : Memory) →
       memory ≡ new → (line text : List ℕ) → line ≡ text → text ≡ shown_text look memory → (status : ℕ) → status ≡ shown_status memory →

@@ -1,6 +1,6 @@
 -- The answers of calls of other crates as those of commands.
 --
---   verdict_status, late_status, required_status, splice_status, sent_status      0 for a yes, 1 for a no
+--   verdict_status, late_status, numbers_status, required_status, splice_status, sent_status      0 for a yes, 1 for a no
 --   pages_status            0, whatever is listed
 --   IsAnswered              a command answers what a call does
 use Rattle.std.specs.Prelude.{◌≡◌, ℕ, ⊤, Result, Ok, Err}
@@ -11,6 +11,8 @@ use Rattle.ttx_deadline.specs.declared.requirements.RequiredVerdict.{RequiredVer
 use Rattle.ttx_deadline.specs.declared.requirements.RequiredVerdict.TheVariants as required
 use Rattle.ttx_late.specs.declared.verdict.LateVerdict.{LateVerdict}
 use Rattle.ttx_late.specs.declared.verdict.LateVerdict.TheVariants as late
+use Rattle.ttx_subpages.specs.declared.verdict.NumbersVerdict.{NumbersVerdict}
+use Rattle.ttx_subpages.specs.declared.verdict.NumbersVerdict.TheVariants as numbers
 use Rattle.ttx_proof.specs.declared.sent.SentVerdict.{SentVerdict}
 use Rattle.ttx_proof.specs.declared.sent.SentVerdict.TheVariants as sent
 use Rattle.ttx_proof.specs.declared.verdict.SpliceVerdict.{SpliceVerdict}
@@ -26,6 +28,11 @@ abbrev pub late_status : LateVerdict → ℕ
 late_status (late.Yes gap) = 0
 late_status (late.No reason) = 1
 late_status (late.NeverShown page slot) = 1
+
+abbrev pub numbers_status : NumbersVerdict → ℕ
+numbers_status (numbers.Yes gap) = 0
+numbers_status (numbers.No reason) = 1
+numbers_status (numbers.Lacking lack) = 1
 
 abbrev pub required_status : RequiredVerdict → ℕ
 required_status required.Yes = 0

@@ -16,6 +16,7 @@ pub mod FindDeadline
 pub mod Refute
 pub mod UnlikeViews
 pub mod Replay
+pub mod Monitor
 pub mod Reports
 pub mod PlannedFiles
 pub mod PlanLaws

@@ -26,7 +26,7 @@ use Rattle.ttx_files.specs.declared.faults.TextFile.TheVariants as text
 use Rattle.ttx_arguments.specs.declared.orders.WordsFault.{WordsFault}
 use Rattle.ttx_arguments.specs.declared.orders.WordsFault.TheVariants as words
 use Rattle.ttx_tool.specs.declared.faults.ToolFault.{ToolFault}
-use Rattle.ttx_tool.specs.declared.faults.ToolFault.TheVariants.{Files, Plan, Class, Same, Counter}
+use Rattle.ttx_tool.specs.declared.faults.ToolFault.TheVariants.{Files, Plan, Class, Same, Counter, Feed}
 use Rattle.ttx_tool.specs.declared.faults.CounterFileFault.{CounterFileFault}
 use Rattle.ttx_tool.specs.declared.faults.CounterFileFault.TheVariants as run
 
@@ -99,6 +99,7 @@ fault_text (Plan plan.NoMemory) = codes "fault: memory"
 fault_text Class = codes "refused: class"
 fault_text Same = codes "refused: same"
 fault_text (Counter fault) = run_text fault
+fault_text Feed = codes "fault: read"
 
 abbrev pub fault_line : ToolFault → List ℕ
 fault_line fault = fault_text fault ++ 10 ∷ []
@@ -145,6 +146,7 @@ status_of (Plan plan.NoMemory) = 3
 status_of Class = 2
 status_of Same = 2
 status_of (Counter fault) = run_status fault
+status_of Feed = 3
 
 -- the line went out, or its first `written` bytes, or nothing
 abbrev pub Reports : List ℕ → ℕ → Option (List ℕ) → Option (List ℕ) → Result ℕ ToolFault → Type 0
@@ -161,5 +163,6 @@ ReportsWords words.Time old new result = Reports (codes "refused: time" ++ 10 �
 ReportsWords words.Seconds old new result = Reports (codes "refused: seconds" ++ 10 ∷ []) 2 old new result
 ReportsWords words.Deadlines old new result = Reports (codes "refused: deadlines" ++ 10 ∷ []) 2 old new result
 ReportsWords words.Within old new result = Reports (codes "refused: within" ++ 10 ∷ []) 2 old new result
+ReportsWords words.Numbers old new result = Reports (codes "refused: numbers" ++ 10 ∷ []) 2 old new result
 ReportsWords words.Twice old new result = Reports (codes "refused: twice" ++ 10 ∷ []) 2 old new result
 ReportsWords words.NoMemory old new result = Reports (fault_line (Files NoMemory)) 3 old new result

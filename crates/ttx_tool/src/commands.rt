@@ -4,12 +4,14 @@
 
 pub mod book;
 pub mod certify;
+pub mod certify_numbers;
 pub mod certify_within;
 pub mod check;
 pub mod extract;
 pub mod find;
 pub mod find_deadline;
 pub mod inspect;
+pub mod monitor;
 pub mod pages;
 pub mod plan;
 pub mod plan_spread;

@@ -16,7 +16,7 @@ pub enum CounterFileFault {
     Text(CounterFault),
 }
 
-/// Why a command fails. The faults are numbered: 1 to 7 those of `FilesFault`, 8 `Plan`, 9 `Class`, 10 `Same`, 11 `Counter`.
+/// Why a command fails. The faults are numbered: 1 to 7 those of `FilesFault`, 8 `Plan`, 9 `Class`, 10 `Same`, 11 `Counter`, 12 `Feed`.
 #[derive(Clone, Copy)]
 pub enum ToolFault {
     /// 1 to 7. A file isn't read or written, or a growth was refused. After `Write` exactly the first `written` bytes of all that a
@@ -30,6 +30,8 @@ pub enum ToolFault {
     Same,
     /// 11. The text of a counter-run isn't read.
     Counter(CounterFileFault),
+    /// 12. A read of a feed failed.
+    Feed,
 }
 
 /// Why `extract` writes nothing. The refusals of a cycle stand apart from all other faults.

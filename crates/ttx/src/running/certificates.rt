@@ -46,6 +46,18 @@ fn certify_readers_within(
     )
 }
 
+// The same for viewers who key a page number alone.
+fn certify_readers_numbers(rt: &HostRuntime, readers: &mut ClaimReaders) -> Result<u8, ToolFault> {
+    let mut writer = Counted::new(io::writer(rt));
+    commands::certify_numbers::run(
+        rt.alloc(),
+        &mut readers.cycle,
+        &mut readers.service,
+        &mut readers.text,
+        &mut writer,
+    )
+}
+
 fn certify_claim(
     rt: &HostRuntime,
     claim: Claim,
@@ -53,6 +65,7 @@ fn certify_claim(
 ) -> Result<u8, ToolFault> {
     let mut readers = claim.readers(rt)?;
     match order.within {
+        None if order.numbers => certify_readers_numbers(rt, &mut readers),
         None => certify_readers(rt, &mut readers, order.late),
         Some(fields) => certify_readers_within(rt, &mut readers, fields.count()),
     }

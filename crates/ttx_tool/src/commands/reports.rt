@@ -165,6 +165,7 @@ fn line_of(alloc: Global, fault: &ToolFault) -> Result<String, AllocError>
         ToolFault::Class => String::from_str(alloc, "refused: class\n"),
         ToolFault::Same => String::from_str(alloc, "refused: same\n"),
         ToolFault::Counter(fault) => run_line(alloc, fault),
+        ToolFault::Feed => String::from_str(alloc, "fault: read\n"),
     }
 }
 
@@ -222,6 +223,7 @@ fn status(fault: &ToolFault) -> u8
         ToolFault::Plan(PlanFault::NoMemory) => 3,
         ToolFault::Plan(_) | ToolFault::Class | ToolFault::Same => 2,
         ToolFault::Counter(fault) => run_status(fault),
+        ToolFault::Feed => 3,
     }
 }
 
@@ -302,6 +304,7 @@ pub fn report_words<W: Write>(
         WordsFault::Seconds => write_text(writer, "refused: seconds\n", 2),
         WordsFault::Deadlines => write_text(writer, "refused: deadlines\n", 2),
         WordsFault::Within => write_text(writer, "refused: within\n", 2),
+        WordsFault::Numbers => write_text(writer, "refused: numbers\n", 2),
         WordsFault::Twice => write_text(writer, "refused: twice\n", 2),
         WordsFault::NoMemory => report(alloc, &ToolFault::Files(FilesFault::NoMemory), writer),
     }

@@ -1,0 +1,37 @@
+//! The command that judges what comes back from the air: `monitor`.
+
+use super::Outcome;
+use super::inputs::{Claim, buffered};
+use crate::devices::{Input, open_input};
+use crate::reports::status_of;
+use std::io;
+use ttx_arguments::MonitorOrder;
+use ttx_cycle::Counted;
+use ttx_tool::{ToolFault, commands};
+
+fn monitor_feed(
+    rt: &HostRuntime,
+    claim: Claim,
+    feed: Input,
+    start: Option<u32>,
+) -> Result<u8, ToolFault> {
+    let mut readers = claim.readers(rt)?;
+    let mut feed = buffered(rt, feed)?;
+    let mut writer = Counted::new(io::writer(rt));
+    commands::monitor::run(
+        rt.alloc(),
+        &mut readers.cycle,
+        &mut readers.service,
+        &mut readers.text,
+        start,
+        &mut feed,
+        &mut writer,
+    )
+}
+
+/// Opens the cycle, the service, the certificate and the feed, and judges the feed.
+pub fn monitor(rt: &HostRuntime, order: &MonitorOrder<'_>) -> Outcome {
+    let claim = Claim::open(rt, order.cycle, order.service, order.certificate)?;
+    let feed = open_input(rt, order.feed)?;
+    Ok(status_of(rt, monitor_feed(rt, claim, feed, order.start)))
+}

@@ -1,0 +1,213 @@
+#!/usr/bin/env python3
+"""Runs `monitor` of the built program on random feeds of small planned services, and compares its lines with those of a plain program.
+
+usage: monitored.py PROGRAM [COUNT]
+
+A feed is what a receiver got of a cycle that is sent again and again, from any slot on, with clocks as they may be, wrong bits within the
+error rule and outside of it, lost slots, slots where none was sent, and a rest. The slot that it begins with is named or found, and it is
+read from a file or from standard input. The plain program in this script says what the error rule says: an empty slot is received empty,
+each other byte with one wrong bit at most, and of any K successive transmissions of a text byte one is received right; clocks in page
+headers and packets 8/30 are free. Feeds of the first cycle begin with each of its slots.
+"""
+import os
+import random
+import subprocess
+import sys
+import tempfile
+
+# Hamming 8/4 (EN 300 706, 8.2)
+WORDS = bytes.fromhex("1502495e6473382fd0c78c9ba1b6fdea")
+EMPTY = bytes(42)
+INFO = '[info]\ninitial = "100"\nnetwork = "12F4"\nmjd = 46000\nutc = 123045\ntext = "Our TV"\n'
+ROWS = ["a row", "\\u0001red \\u0012mosaic", "", "x" * 40]
+
+
+def service(draw):
+    """The text of a small service, and the ids of its pages."""
+    text = f"lines = {draw.choice([1, 2, 4])}\nserial = {draw.choice(['true', 'false'])}\n" + draw.choice(["", INFO])
+    ids = []
+    for number in sorted(draw.sample(["100", "101", "1A0", "234", "877"], draw.randint(1, 3))):
+        for sub in range(draw.choice([1, 1, 2])):
+            ids.append(f"{number}/{sub:04X}")
+            text += f'[[page]]\nnumber = "{number}"\nsub = "{sub:04X}"\noften = {draw.choice([1, 1, 2])}\nhead = "page {number}"\n[page.rows]\n'
+            for row in sorted(draw.sample(range(1, 25), draw.randint(0, 4))):
+                text += f'{row} = "{draw.choice(ROWS)}"\n'
+    return text, ids
+
+
+def address(slot):
+    """The magazine and the number of a packet that was sent, or None for an empty line."""
+    if slot == EMPTY:
+        return None
+    low, high = WORDS.index(slot[0]), WORDS.index(slot[1])
+    return low % 8 or 8, low // 8 + 2 * high
+
+
+def page_of(slot):
+    """The id in a header."""
+    d = [WORDS.index(byte) for byte in slot[2:10]]
+    sub = d[2] + 16 * (d[3] % 8) + 256 * d[4] + 4096 * (d[5] % 4)
+    return f"{address(slot)[0]}{d[1]:X}{d[0]:X}/{sub:04X}"
+
+
+class Cycle:
+    """The slots of a cycle: how many bytes of each are compared, and the page and the row whose text it sends."""
+
+    def __init__(self, data):
+        self.slots = [data[i:i + 42] for i in range(0, len(data), 42)]
+        self.compared, self.texts, latest = [], [], {}
+        for turn in range(2):
+            self.compared, self.texts = [], []
+            for slot in self.slots:
+                mag, number = address(slot) or (0, 99)
+                if number == 0:
+                    latest[mag] = page_of(slot)
+                self.compared.append(34 if number == 0 else 2 if (mag, number) == (8, 30) else 42)
+                self.texts.append((latest[mag], number) if number < 25 and mag in latest else None)
+
+    def __len__(self):
+        return len(self.slots)
+
+    def far(self, at, received):
+        """The first byte that the rule does not allow in place of slot `at`, or None."""
+        sent = self.slots[at % len(self)]
+        if sent == received:
+            return None
+        for x in range(self.compared[at % len(self)]):
+            if bin(sent[x] ^ received[x]).count("1") > (0 if sent == EMPTY else 1):
+                return x
+        return None
+
+    def start_of(self, feed):
+        """The slot from which the first period fits best."""
+        head = feed[:len(self)]
+        return min(range(len(self)), key=lambda start: (sum(self.far(start + n, slot) is not None for n, slot in enumerate(head)), start))
+
+
+def verdict(cycle, ids, repeat, feed, rest, named):
+    """The status and the text for a feed, by the error rule."""
+    start = cycle.start_of(feed) if named is None else named
+    wrong, longest, streaks = 0, 0, {}
+    for n, received in enumerate(feed):
+        at = (start + n) % len(cycle)
+        sent, far = cycle.slots[at], cycle.far(at, received)
+        if far is not None:
+            way = "unlike" if sent == EMPTY else "lost" if received == EMPTY else f"byte {far}"
+            return 1, f"no slot {n} {way} start {start}\n"
+        wrong += sum(sent[x] != received[x] for x in range(cycle.compared[at]))
+        if cycle.texts[at] is None or cycle.texts[at][0] not in ids:
+            continue
+        page, row = cycle.texts[at]
+        for x in range(10, 34) if row == 0 else range(2, 42):
+            streak = streaks.get((page, row, x), 0) + 1 if sent[x] != received[x] else 0
+            streaks[page, row, x] = streak
+            if streak == repeat:
+                item = "head" if row == 0 else f"row {row}"
+                return 1, f"no repeat {page} {item} byte {x} slot {n} start {start}\n"
+            longest = max(longest, streak)
+    text = f"yes start {start} slots {len(feed)} wrong {wrong} streak {longest}\n"
+    return 0, text + (f"rest {rest} bytes\n" if rest else "")
+
+
+def flip(feed, n, x, bits=1):
+    slot = bytearray(feed[n])
+    slot[x] ^= bits
+    feed[n] = bytes(slot)
+
+
+def damaged(draw, cycle, ids, start, count, repeat):
+    """What may be received of `count` slots from slot `start` on."""
+    feed = []
+    for n in range(count):
+        at = (start + n) % len(cycle)
+        slot = bytearray(cycle.slots[at])
+        if draw.random() < 0.5:
+            for x in range(cycle.compared[at], 42):
+                slot[x] = draw.randrange(256)
+        feed.append(bytes(slot))
+    sent = [n for n in range(count) if feed[n] != EMPTY]
+    kind = draw.choice(["clean", "near", "near", "streak", "streak", "two bits", "lost", "unlike", "slipped"])
+    for n in draw.sample(sent, len(sent) // 3) if kind != "clean" and draw.random() < 0.7 else []:
+        flip(feed, n, draw.randrange(2), 1 << draw.randrange(8))
+    if kind == "near" and sent and repeat > 1:
+        # no slot is hit that sends what one was hit in already
+        hit = set()
+        for n in draw.sample(sent, len(sent) // 2):
+            text = cycle.texts[(start + n) % len(cycle)]
+            if text and text not in hit:
+                hit.add(text)
+                flip(feed, n, draw.randrange(10, 34), 1 << draw.randrange(8))
+    own = [n for n in sent if (cycle.texts[(start + n) % len(cycle)] or [None])[0] in ids]
+    if kind == "streak" and own:
+        text = cycle.texts[(start + draw.choice(own)) % len(cycle)]
+        ones = [n for n in own if cycle.texts[(start + n) % len(cycle)] == text]
+        at, length, x = draw.randrange(len(ones)), draw.choice([repeat, max(repeat - 1, 1)]), draw.randrange(10, 34)
+        for n in ones[at:at + length]:
+            flip(feed, n, x, 1 << draw.randrange(8))
+    if kind == "two bits" and sent:
+        n = draw.choice(sent)
+        flip(feed, n, draw.randrange(42), draw.choice([3, 0x81, 0xff]))
+    if kind == "lost" and sent:
+        feed[draw.choice(sent)] = EMPTY
+    if kind == "unlike" and len(sent) < count:
+        flip(feed, draw.choice([n for n in range(count) if n not in sent]), draw.randrange(42), 1 << draw.randrange(8))
+    if kind == "slipped" and count:
+        del feed[draw.randrange(count)]
+    return feed
+
+
+def told(program, feed, rest, named, piped):
+    """The status and the text of the program."""
+    data = b"".join(feed) + bytes(rest)
+    with open("feed", "wb") as file:
+        file.write(data)
+    words = [program, "monitor", "cycle", "service", "cert", "-" if piped else "feed"]
+    words += [] if named is None else ["--start", str(named)]
+    done = subprocess.run(words, input=data if piped else b"", capture_output=True, timeout=60, check=False)
+    return done.returncode, done.stdout.decode() + done.stderr.decode()
+
+
+def plan(program, draw):
+    """A planned cycle with a certificate of a random repeat count: the cycle, the ids of its pages, and the count."""
+    while True:
+        text, ids = service(draw)
+        repeat = draw.choice([1, 2, 2, 3])
+        with open("service", "w", encoding="utf-8") as file:
+            file.write(text)
+        for words in (["plan", "service", "cycle"], ["find", "cycle", "service", "cert", "--repeat", str(repeat)]):
+            subprocess.run([program, *words], capture_output=True, timeout=60, check=True)
+        with open("cycle", "rb") as file:
+            cycle = Cycle(file.read())
+        if len(cycle) <= 200:
+            return cycle, ids, repeat
+
+
+def main():
+    program = os.path.abspath(sys.argv[1])
+    count = int(sys.argv[2]) if len(sys.argv) > 2 else 300
+    draw = random.Random(52)
+    failed = made = 0
+    with tempfile.TemporaryDirectory() as folder:
+        os.chdir(folder)
+        while made < count:
+            cycle, ids, repeat = plan(program, draw)
+            # of the first service, a feed from every slot on
+            starts = range(len(cycle)) if made == 0 else [draw.randrange(len(cycle)) for _ in range(10)]
+            for start in starts:
+                most = 3 * len(cycle)
+                slots = draw.choice([0, 1, draw.randint(2, len(cycle)), draw.randint(len(cycle), most), draw.randint(len(cycle), most)])
+                feed = damaged(draw, cycle, ids, start, slots, repeat)
+                named = draw.choice([None, None, start, start + len(cycle), draw.randrange(65536)])
+                rest = draw.choice([0, 0, 1, 41])
+                wanted = verdict(cycle, ids, repeat, feed, rest, named)
+                got = told(program, feed, rest, named, draw.random() < 0.5)
+                made += 1
+                if got != wanted:
+                    failed += 1
+                    print(f"feed {made}, start {start}, named {named}: {got}, not {wanted}")
+    print(f"monitored: {made} feeds, {failed} failed")
+    return 1 if failed else 0
+
+
+if __name__ == "__main__":
+    sys.exit(main())
