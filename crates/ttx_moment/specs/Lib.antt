@@ -1,3 +1,4 @@
 pub mod Instants
 pub mod Texts
 pub mod Clocks
+pub mod Zones

@@ -9,7 +9,7 @@ use jiff::tz::TimeZone;
 use ttx_send::Moment;
 
 // How many seconds a clock at this offset is ahead of UTC, within a day.
-fn ahead(offset: i32) -> u32
+pub(crate) fn ahead(offset: i32) -> u32
     ensures { result ≡ ahead offset }
 {
     ((i64::from(offset) + 172_800).unsigned_abs() % 86_400) as u32

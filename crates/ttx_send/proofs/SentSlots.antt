@@ -1,5 +1,5 @@
 -- Slots as they are sent, one after the other.
-use Rattle.std.proofs.Common.{[], ◌≡◌, ℕ, zero, suc, ◌+◌, ◌<◌, ◌≤◌, ◌*◌, ◌-◌, ◌/◌, ◌%◌, ℤ, pos, ◌+ℤ◌, List, ◌∷◌, ◌++◌, length, take, append_assoc}
+use Rattle.std.proofs.Common.{[], ◌≡◌, ℕ, zero, suc, ◌+◌, ◌<◌, ◌≤◌, ◌*◌, ◌-◌, ◌/◌, ℤ, pos, ◌+ℤ◌, List, ◌∷◌, ◌++◌, length, take, append_assoc}
 use Rattle.std.proofs.Common.{refl, sym, ap, ◌∙◌, arith, get_or}
 use Rattle.std.proofs.lemmas.Int.{ints}
 use Rattle.std.proofs.lemmas.Grind.{flat_map-append}
@@ -11,9 +11,8 @@ use Rattle.std.proofs.lemmas.List.{take-append-le}
 use Rattle.ttx_cycle.specs.Files.{file_of}
 use Rattle.ttx_page.specs.Streams.{Stream, repeated}
 use Rattle.ttx_page.specs.Laws.{sent_from}
-use Rattle.ttx_send.specs.Times.{Moment, fields_later, moment_at}
 use Rattle.ttx_send.specs.Laws.{SentFileIsTheAir}
-use Rattle.ttx_send.specs.Airing.{at_time, at_moment, Broadcast, on_air, sent_slots}
+use Rattle.ttx_send.specs.Airing.{at_time, field_time, at_moment, Broadcast, on_air, sent_slots}
 
 -- n slots and m more
 pub sent_both : (s : Stream) (tau : ℤ) (n m : ℕ) → sent_from s tau (n + m) ≡ sent_from s tau n ++ sent_from s (tau +ℤ pos n) m
@@ -52,14 +51,10 @@ field_of phase field lines k some =
     let e : ((phase + field) * lines + k) / lines ≡ (phase + field) + k / lines = mul-add-div_right some (phase + field) k in
     omega (arith, e)
 
--- fields of one second have its time
-same_time : (start : Moment) (a b : ℕ) → a / 50 ≡ b / 50 → fields_later start a ≡ fields_later start b
-same_time start a b e = λ i. moment_at ((start.mjd + (start.second + e i) / 86400) % 100000) ((start.second + e i) % 86400) start.ahead
-
 -- the slots of some fields more, all of one second
 module _ (s : Broadcast) where
   abbrev pub piece_slots : ℕ → ℕ → List (List ℕ)
-  piece_slots field m = sent_from (at_moment s.cycle (fields_later s.start field)) (pos ((s.phase + field) * s.lines)) (m * s.lines)
+  piece_slots field m = sent_from (at_moment s.cycle (field_time s.times field)) (pos ((s.phase + field) * s.lines)) (m * s.lines)
 
   pub slots_more : (field m : ℕ) → 0 < s.lines → ((n : ℕ) → n < m → (field + n) / 50 ≡ field / 50) →
       sent_slots s (field + m) ≡ sent_slots s field ++ piece_slots field m
@@ -70,10 +65,9 @@ module _ (s : Broadcast) where
       ∙ sent_both (on_air s) (pos (s.phase * s.lines)) (field * s.lines) (m * s.lines)
       ∙ ap (λ l. sent_slots s field ++ l)
       (ap (λ j. sent_from (on_air s) (pos j) (m * s.lines)) place
-      ∙ same_from (on_air s) (at_moment s.cycle (fields_later s.start field)) first (m * s.lines)
+      ∙ same_from (on_air s) (at_moment s.cycle (field_time s.times field)) first (m * s.lines)
       (λ k l. ap (λ t. at_time t (repeated s.cycle (pos (first + k))))
-      (ap (fields_later s.start) (field_of s.phase field s.lines k some)
-      ∙ same_time s.start (field + k / s.lines) field (second (k / s.lines) ((div-lt_iff_lt-mul some).1 l)))))
+      (ap (field_time s.times) (field_of s.phase field s.lines k some) ∙ ap s.times (second (k / s.lines) ((div-lt_iff_lt-mul some).1 l)))))
 
   pub bytes_more : (field m : ℕ) → 0 < s.lines → ((n : ℕ) → n < m → (field + n) / 50 ≡ field / 50) →
       file_of (sent_slots s (field + m)) ≡ file_of (sent_slots s field) ++ file_of (piece_slots field m)
@@ -128,5 +122,5 @@ sent_file_is_the_air s fields field line before within =
       long_from (on_air s) (pos first) (fields * s.lines),
       from_at (on_air s) (pos first) (fields * s.lines) (field * s.lines + line) inside
           ∙ ap (λ j. on_air s (pos j)) place
-          ∙ ap (λ n. at_time (fields_later s.start n) (repeated s.cycle (pos ((s.phase + field) * s.lines + line)))) at,
+          ∙ ap (λ n. at_time (field_time s.times n) (repeated s.cycle (pos ((s.phase + field) * s.lines + line)))) at,
     )

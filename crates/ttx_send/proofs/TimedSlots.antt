@@ -1,5 +1,5 @@
 -- A slot with the time of a moment.
-use Rattle.std.proofs.Common.{◌≡◌, ◌⊎◌, ℕ, zero, suc, ◌+◌, ◌*◌, ◌/◌, ◌%◌, ◌<◌, ◌≤◌, true, List, [], ◌∷◌, ◌++◌, length, length-append, length-take-le}
+use Rattle.std.proofs.Common.{◌≡◌, ◌⊎◌, ℕ, zero, suc, ◌+◌, ◌*◌, ◌/◌, ◌%◌, ◌<◌, ◌≤◌, true, false, if◌then◌else◌, Option, Some, None, List, [], ◌∷◌, ◌++◌, length, length-append, length-take-le}
 use Rattle.std.proofs.Common.{length-drop, take, drop, get_or, get_or-take, refl, sym, ◌∙◌, subst, inl, inr, arith, slice_index}
 use Rattle.std.specs.List.{AllByRecursion}
 use Rattle.std.proofs.lemmas.List.{get_or_append_left}
@@ -9,7 +9,7 @@ use Rattle.ttx_packet.specs.Slots.{IsSlot, Kind, IsEmpty, IsUnreadable, IsHeader
 use Rattle.ttx_packet.specs.Receptions.{IsFree}
 use Rattle.ttx_packet.specs.Laws.{EmptySlotsAreEmpty}
 use Rattle.ttx_info.specs.Infos.{half_byte}
-use Rattle.ttx_send.specs.Times.{Moment, hhmmss, clock_bytes, date_and_time}
+use Rattle.ttx_send.specs.Times.{LocalOffset, Moment, hhmmss, clock_bytes, date_and_time, shown_offset}
 use Rattle.ttx_send.specs.Airing.{is_format_1, at_time_of_kind, at_time, IsSentAs}
 use Rattle.ttx_send.specs.Laws.{TimedIsSentAs}
 
@@ -79,6 +79,11 @@ date_is_bytes t high l =
     let first : 16 * high + half_byte t.mjd 10000 < 256 = omega (arith, l, half_small t.mjd 10000) in
     (first, (two t.mjd 1000 100, (two t.mjd 10 1, (two u 100000 10000, (two u 1000 100, (two u 10 1, tt))))))
 
+offset_is_byte : (o : Option LocalOffset) (byte : ℕ) → byte < 256 → shown_offset o byte < 256
+offset_is_byte None byte l = l
+offset_is_byte (Some o) byte l =
+    elim o.west as (λ w. 129 + 2 * (o.halves % 32) + (if w then 64 else 0) < 256) [ true ↦ omega arith | false ↦ omega arith ]
+
 -- ---- the slot
 
 itself : (slot : List ℕ) → IsSlot slot → IsSentAs slot slot
@@ -107,26 +112,28 @@ module _ (holds : OddBytesHoldTheirCodes) (empty : EmptySlotsAreEmpty) (t : Mome
         ];
       }
 
+  abbrev date : List ℕ
+  date = shown_offset t.offset (slice_index slot 11) ∷ date_and_time (slice_index slot 12 / 16) t
+
   abbrev dated : List ℕ
-  dated = take 12 slot ++ date_and_time (slice_index slot 12 / 16) t ++ drop 18 slot
+  dated = take 11 slot ++ date ++ drop 18 slot
 
   info_sent : kind_of slot ≡ IsInfo → IsSentAs slot dated
   info_sent e =
-      let date = date_and_time (slice_index slot 12 / 16) t in
       let high : slice_index slot 12 / 16 < 16 = omega (arith, s.bytes 12) in
-      let l12 : length (take 12 slot) ≡ 12 = length-take-le 12 slot (omega (arith, s.size)) in
-      let l18 : length (take 12 slot ++ date) ≡ 18 = omega (arith, length-append (take 12 slot) date, l12) in
+      let l11 : length (take 11 slot) ≡ 11 = length-take-le 11 slot (omega (arith, s.size)) in
+      let l18 : length (take 11 slot ++ date) ≡ 18 = omega (arith, length-append (take 11 slot) date, l11) in
+      let bytes : AllByRecursion (λ b. b < 256) date = (offset_is_byte t.offset (slice_index slot 11) (s.bytes 11), date_is_bytes t (slice_index slot 12 / 16) high) in
       record {
         is_slot = record {
-          size = omega (arith, length-append (take 12 slot ++ date) (drop 18 slot), l18, length-drop 18 slot, s.size);
-          bytes = byte_in dated (both_bytes (take 12 slot ++ date) (drop 18 slot)
-              (both_bytes (take 12 slot) date (front_bytes 12 slot all_bytes) (date_is_bytes t (slice_index slot 12 / 16) high))
-              (back_bytes 18 slot all_bytes));
+          size = omega (arith, length-append (take 11 slot ++ date) (drop 18 slot), l18, length-drop 18 slot, s.size);
+          bytes = byte_in dated (both_bytes (take 11 slot ++ date) (drop 18 slot)
+              (both_bytes (take 11 slot) date (front_bytes 11 slot all_bytes) bytes) (back_bytes 18 slot all_bytes));
         };
         empty = λ z. absurd (not_empty empty slot IsInfo e (λ h. cc) z);
         same = λ x l. elim (cases_lt x 2) as (λ _. IsFree (kind_of slot) x ⊎ (slice_index dated x ≡ slice_index slot x)) [
-          | inl lt ↦ inr (get_or_append_left (take 12 slot ++ date) (drop 18 slot) 0 x (omega (arith, l18, lt))
-              ∙ front_stays 12 slot date (omega (arith, s.size)) x (omega (arith, lt)))
+          | inl lt ↦ inr (get_or_append_left (take 11 slot ++ date) (drop 18 slot) 0 x (omega (arith, l18, lt))
+              ∙ front_stays 11 slot date (omega (arith, s.size)) x (omega (arith, lt)))
           | inr ge ↦ inl (subst (λ k. IsFree k x) (sym e) ge)
         ];
       }

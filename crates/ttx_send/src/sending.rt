@@ -7,11 +7,11 @@ ghost use Rattle.ttx_cycle.specs.Cycles.{slots_of};
 ghost use Rattle.ttx_cycle.specs.Files.{file_of, IsCycle};
 ghost use Rattle.ttx_cycle.specs.Writing.{Writes};
 ghost use Rattle.ttx_page.specs.Laws.{sent_from};
-ghost use Rattle.ttx_send.specs.Airing.{at_moment, broadcast_of, sent_slots};
+ghost use Rattle.ttx_send.specs.Airing.{at_moment, broadcast_by, sent_slots};
 
-use crate::moments::Moment;
+use crate::clocks::Clock;
 use crate::pieces::{next_piece, put_slot, room};
-use crate::stamps::{Stamp, stamp_of};
+use crate::stamps::{Stamp, stamp_at, stamp_of};
 use crate::timing::stamped;
 use std::io::Write;
 use ttx_cycle::{Counted, Cycle, WriteFault, write_bytes};
@@ -32,13 +32,13 @@ fn piece_bytes(slots: &[[u8; 42]], first: usize, count: usize, stamp: &Stamp) ->
     bytes
 }
 
-/// Sends `fields` fields of the repeated cycle, each of 1 to 32 lines. It begins with field `phase`, which is sent at the moment `start`.
+/// Sends `fields` fields of the repeated cycle, each of 1 to 32 lines. It begins with field `phase`, which is sent at the start of the clock.
 ///
 /// Each field is written at once, and several together if they have few lines. If a write fails, exactly the first `written` bytes
 /// have been written. Allocates nothing.
-pub fn send<W: Write>(
+pub fn send<C: Clock, W: Write>(
     cycle: &Cycle,
-    start: &Moment,
+    clock: &C,
     lines: u8,
     phase: u32,
     fields: u32,
@@ -46,7 +46,7 @@ pub fn send<W: Write>(
 ) -> Result<(), WriteFault>
     requires some { 1 ≤ lines }
     requires most { lines ≤ 32 }
-    ensures bytes { Writes (file_of (sent_slots (broadcast_of (slots_of cycle.now) lines phase start.now) fields))
+    ensures bytes { Writes (file_of (sent_slots (broadcast_by (slots_of cycle.now) lines phase (C.shows clock.now)) fields))
         (W.contents (inner_of writer.old)) (W.contents (inner_of writer.new)) result }
     ensures faults { MatchResult result (λ _. faults_of writer.new ≡ faults_of writer.old)
         (λ _. HasRisen (faults_of writer.old) (faults_of writer.new)) }
@@ -56,9 +56,10 @@ pub fn send<W: Write>(
     let mut first = phase as usize * lines;
     let mut sent = 0;
     let mut field = 0;
+    let mut stamp = stamp_of(clock.after(0));
     while field < fields {
         let piece = next_piece(field, fields, lines);
-        let stamp = stamp_of(start.later(field));
+        stamp = stamp_at(clock, field, stamp);
         let bytes = piece_bytes(slots, first, piece.slots, &stamp);
         if let Err(fault) = write_bytes(writer, &bytes[..42 * piece.slots]) {
             return Err(WriteFault {
