@@ -27,6 +27,7 @@ pub data Place : Type 0 where
   AtService : Place
   AtCertificate : Place
   AtCounter : Place
+  AtFeed : Place
   AtOutput : Place
 
 pub record Device : Type 0 where
@@ -47,6 +48,7 @@ IsRight AtCycle known = IfSome known (λ bytes. (slots : List (List ℕ)) × IsP
 IsRight AtService known = IfSome known (λ bytes. (service : ServiceFields) × IsServiceText bytes service)
 IsRight AtCertificate known = IfSome known (λ bytes. (w : CertificateFields) × IsCertificateText bytes w)
 IsRight AtCounter known = ⊤
+IsRight AtFeed known = ⊤
 IsRight AtOutput known = ⊤
 
 -- None: no device failed. Some place: one at this place failed, none before it or after it did, and what was read before it is right.

@@ -5,12 +5,14 @@
 --   viewed_by               an answer, with its value as a plain record
 --   ReadsPackets, ReadsServiceText, ReadsService, ReadsWitness      what is answered for the bytes of a packet file, of a text, a service
 --                           definition, a certificate
+--   ReadsSlots              what is answered for the bytes of a packet file whose slots are given one by one; P holds of all of them
 --   of_text, IsUnread       why a text is not read, as a fault of this text, and that a fault is one of these
 use Rattle.std.specs.Prelude.{◌≡◌, ◌⊎◌, ℕ, ◌<◌, ◌≤◌, List, length, ⊤, Result, Ok, Err, Vec}
 use Rattle.std.specs.declared.alloc.Global.{Global}
 use Rattle.ttx_cycle.specs.Bounded.{most_bytes}
 use Rattle.ttx_cycle.specs.Files.{IsPacketFile}
 use Rattle.ttx_cycle.specs.Reading.{Judged}
+use Rattle.ttx_cycle.specs.declared.faults.CycleFault.TheVariants as cycle
 use Rattle.ttx_cycle.specs.declared.faults.TextFault.{TextFault}
 use Rattle.ttx_cycle.specs.declared.faults.TextFault.TheVariants as reading
 use Rattle.ttx_source.specs.Faults.{fault_of}
@@ -55,6 +57,13 @@ abbrev pub ReadsPackets : List ℕ → Result (List (List ℕ)) FilesFault → T
 ReadsPackets bytes (Ok slots) = IsPacketFile bytes slots
 ReadsPackets bytes (Err (Cycle fault)) = Judged bytes (Err fault)
 ReadsPackets bytes (Err _) = ⊥
+
+-- Slots that are read one by one are not kept, so no allocation fails.
+abbrev pub ReadsSlots : {T : Type 0} → (List (List ℕ) → Type 0) → List ℕ → Result T FilesFault → Type 0
+ReadsSlots P bytes (Ok _) = (slots : List (List ℕ)) × IsPacketFile bytes slots × P slots
+ReadsSlots P bytes (Err (Cycle cycle.NoMemory)) = ⊥
+ReadsSlots P bytes (Err (Cycle fault)) = Judged bytes (Err fault)
+ReadsSlots P bytes (Err _) = ⊥
 
 -- the bytes themselves, whatever they say
 abbrev pub ReadsServiceText : List ℕ → Result (Vec ℕ Global) FilesFault → Type 0

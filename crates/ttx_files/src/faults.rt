@@ -39,3 +39,12 @@ pub enum FilesFault {
     #[error("out of memory")]
     NoMemory,
 }
+
+/// Why a feed is not read.
+#[derive(Clone, Copy, PartialEq, Eq, Debug)]
+pub enum FeedFault {
+    /// A read of the feed failed.
+    Read,
+    /// Memory ran out.
+    NoMemory,
+}
