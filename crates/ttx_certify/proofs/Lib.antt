@@ -4,7 +4,6 @@ mod OneItem
 pub mod ItemByItem
 mod Accepting
 mod WalkVerdicts
-mod SlotBySlot
 mod OneFile
 mod TwoFiles
 pub mod PageByPage

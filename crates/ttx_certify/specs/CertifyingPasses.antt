@@ -1,13 +1,20 @@
 -- What is answered and written when two readings of a packet file are certified, with a service definition and a certificate.
 --
+--   IsRefusedCycle  why the first faulty one of two packet files is refused
+--   WalkedFiles     the verdict of a walk over two packet files
 --   CertifiesTwice  the verdict on four inputs, and its line
 --   IsRefusedTwice  why four inputs are refused
 --   WalksFiles      the verdict on two packet files, with the pages of a service and a certificate
 --   JudgesPasses    the verdict on four inputs, and its line, or why they are refused
 --   CertifiesPasses what has been written, for each answer
 --   PassesAreFiles  the law that two readings of one file have the verdict of the file
-use Rattle.std.specs.Prelude.{◌≡◌, ℕ, List, length, string_bytes, ⊤, Option, Result, Ok, Err}
+use Rattle.std.specs.Prelude.{◌≡◌, ◌⊎◌, ℕ, List, length, string_bytes, ⊤, Option, Result, Ok, Err}
+use Rattle.ttx_cycle.specs.Files.{IsPacketFile}
+use Rattle.ttx_cycle.specs.Reading.{Judged}
+use Rattle.ttx_cycle.specs.declared.faults.CycleFault.{CycleFault}
+use Rattle.ttx_page.specs.Pages.{Page}
 use Rattle.ttx_source.specs.Services.{ServiceFields, pages_of}
+use Rattle.ttx_witness.specs.Coverage.{Certificate}
 use Rattle.ttx_witness.specs.Entries.{CertificateFields, certificate_at}
 use Rattle.ttx_files.specs.Answers.{WritesAnswer}
 use Rattle.ttx_files.specs.Inputs.{IsRefusedText}
@@ -15,9 +22,23 @@ use Rattle.ttx_files.specs.declared.faults.FilesFault.{FilesFault}
 use Rattle.ttx_files.specs.declared.faults.FilesFault.TheVariants.{Cycle, NoMemory}
 use Rattle.ttx_files.specs.declared.told.Told.{Told}
 use Rattle.ttx_certify.specs.CertifyingFiles.{IsServiceText, IsCertificateText, Certifies}
-use Rattle.ttx_certify.specs.Feeding.{IsRefusedCycle, WalkedFiles}
 use Rattle.ttx_certify.specs.VerdictLines.{verdict_line}
+use Rattle.ttx_certify.specs.Verdicts.{Means}
+use Rattle.ttx_certify.specs.Walking.{IsWalkVerdict}
 use Rattle.ttx_certify.specs.declared.verdict.Verdict.{Verdict}
+
+-- the first of two packet files is refused, or it is accepted and the second is refused
+abbrev pub IsRefusedCycle : List ℕ → List ℕ → CycleFault → Type 0
+IsRefusedCycle a b fault = Judged a (Err fault) ⊎ ((x : List (List ℕ)) × IsPacketFile a x × Judged b (Err fault))
+
+-- the verdict over two packet files
+pub record WalkedFiles (a b : List ℕ) (pages : List Page) (w : Certificate) (verdict : Verdict) : Type 0 where
+  pub first : List (List ℕ)
+  pub second : List (List ℕ)
+  pub first_is : IsPacketFile a first
+  pub second_is : IsPacketFile b second
+  pub exact : IsWalkVerdict first second pages w verdict
+  pub seen : Means second pages w verdict
 
 -- the verdict on two packet files, the pages of the service and the certificate, and its line
 pub record CertifiesTwice (a b c d : List ℕ) (verdict : Verdict) (line : List ℕ) : Type 0 where

@@ -4,7 +4,6 @@ pub mod Verdicts
 pub mod Walking
 pub mod VerdictLines
 pub mod CertifyingFiles
-pub mod Feeding
 pub mod CertifyingPasses
 pub mod Laws
 pub mod VerdictLaws

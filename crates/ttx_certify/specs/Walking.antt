@@ -1,8 +1,8 @@
 -- What a walk keeps of its two lists of slots, and its verdict on them.
 --
 --   walk_pages, walk_certificate, second_pages, second_certificate    the pages and the certificate of a walk, in each of its passes
---   Starts                  a walk after a first list
---   Stands                  a walk after a first and a second list
+--   Starts, Stands          a walk after a first list; after a first and a second list
+--   TookFirst, TookSecond   what a walk has become by taking these slots as its first list; as its second
 --   IsWalkVerdict           the verdict of a walk over two lists
 use Rattle.std.specs.Prelude.{◌≡◌, ℕ, List, []}
 use Rattle.ttx_page.specs.Pages.{Page}
@@ -32,6 +32,15 @@ Starts walk x = IsFirstPass walk.pass x
 
 abbrev pub Stands : Second → List (List ℕ) → List (List ℕ) → Type 0
 Stands second x y = IsSecondPass second.pass x y
+
+abbrev pub TookFirst : Walk → Walk → List (List ℕ) → Type 0
+TookFirst old new x =
+    (Starts old [] → Starts new x) × (walk_pages new ≡ walk_pages old) × (walk_certificate new ≡ walk_certificate old)
+
+abbrev pub TookSecond : Second → Second → List (List ℕ) → Type 0
+TookSecond old new y =
+    ((x : List (List ℕ)) → Stands old x [] → Stands new x y) × (second_pages new ≡ second_pages old)
+    × (second_certificate new ≡ second_certificate old)
 
 -- Unsteady exactly if the second list does not bear out the first; for two equal lists, only if they are empty. Any other verdict is that
 -- on the second list. A list of more than 65,536 slots is never accepted.

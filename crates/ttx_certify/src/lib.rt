@@ -5,7 +5,6 @@
 #![tactic(auto)]
 
 mod certifying;
-mod feeding;
 mod files;
 mod item_reasons;
 mod judging;
@@ -14,6 +13,7 @@ mod page_reasons;
 mod passes;
 mod receiving;
 mod services;
+mod takers;
 mod verdict;
 pub mod verdict_laws;
 mod verdict_lines;

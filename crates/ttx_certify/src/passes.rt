@@ -7,14 +7,13 @@ ghost use Rattle.ttx_files.specs.Answers.{IsUntouched, is_write};
 ghost use Rattle.ttx_files.specs.Devices.{AtCycle, AtService, AtCertificate, input, output, failed_at, IsRight, IsFirstFailure};
 ghost use Rattle.ttx_certify.specs.CertifyingPasses.{WalksFiles, JudgesPasses, CertifiesPasses};
 
-use crate::feeding::walk_twice;
 use crate::files::line_of;
 use crate::verdict::Verdict;
 use crate::walking::Walk;
 use std::alloc::Global;
 use std::io::{Read, Write};
 use ttx_cycle::Counted;
-use ttx_files::{FilesFault, Texts, Told, read_texts, write_told};
+use ttx_files::{FilesFault, Texts, Told, read_slots, read_texts, write_told};
 
 // The verdict of a walk over two packet files.
 fn walk_files<A: Read, B: Read>(
@@ -29,13 +28,16 @@ fn walk_files<A: Read, B: Read>(
     ensures faults { IsFirstFailure (input AtCycle (A.remaining (inner_of first.old)) (faults_of first.old) (faults_of first.new)
         ∷ input AtCycle (B.remaining (inner_of second.old)) (faults_of second.old) (faults_of second.new) ∷ []) (failed_at result) }
 {
-    let walk = match Walk::new(alloc, texts.service.pages(), &texts.certificate) {
-        Ok(walk) => walk,
-        Err(_) => return Err(FilesFault::NoMemory),
+    let Ok(mut walk) = Walk::new(alloc, texts.service.pages(), &texts.certificate) else {
+        return Err(FilesFault::NoMemory);
     };
-    match walk_twice(walk, first, second) {
-        Ok(verdict) => Ok(verdict),
-        Err(fault) => Err(FilesFault::Cycle(fault)),
+    if let Err(fault) = read_slots(first, &mut walk) {
+        return Err(fault);
+    }
+    let mut passed = walk.begin_second();
+    match read_slots(second, &mut passed) {
+        Ok(()) => Ok(passed.finish()),
+        Err(fault) => Err(fault),
     }
 }
 
