@@ -25,3 +25,4 @@ pub mod AgreeingStreams
 mod CarriedPages
 mod ReceivedAlike
 pub mod CarriedIsSeen
+mod LastBlocks

@@ -172,16 +172,16 @@ first_over turn cycle some p = let r = least_below (Ends cycle p) (length cycle)
 
     ended_at : (j : ℕ) → j < length cycle → ((i : ℕ) → i < j → Ends cycle p i → ⊥) → Ends cycle p j → (first : Option ℕ)
         × TellsOver (repeated cycle) p first
-    ended_at j lt before (inl header) = (None, ended cycle p j lt header (λ i below w. before i below (inr w)))
+    ended_at j lt before (inl header) = (None, ended cycle p.id.mag (IsWrongSlot p) (λ slot w. (w.0, w.1.1)) j lt header (λ i below w. before i below (inr w)))
     ended_at j lt before (inr wrong) = (
       Some j,
-      first_is cycle p j lt (λ i below. is_false _ (λ h. before i below (inl h)))
+      first_is cycle p.id.mag (IsWrongSlot p) (λ slot w. (w.0, w.1.1)) j lt (λ i below. is_false _ (λ h. before i below (inl h)))
           (λ i below w. before i below (inr w)) wrong,
     )
 
     told : (first : Option ℕ) → FirstBelow (Ends cycle p) (length cycle) first → (first : Option ℕ) × TellsOver (repeated cycle) p first
     told (Some j) f = ended_at j f.0 f.2 f.1
-    told None none = (None, none_over cycle p turn some (λ i lt w. none i lt (inr w)))
+    told None none = (None, none_over cycle p.id.mag (IsWrongSlot p) (λ slot w. (w.0, w.1.1)) turn some (λ i lt w. none i lt (inr w)))
 
 -- bridges
 

@@ -3,6 +3,7 @@
 --   IsLeftTo                the latest header of the magazine before slot 0 is one of the page
 --   TellsLatest, AreLatest  the place of the latest header of a magazine in the old cycle; of all eight
 --   IsWrongAs, IsWrongSlot  a slot that carries a needed item and differs from the page
+--   StandsFirst             a slot of a kind before the first header of a magazine
 --   HangsOver, TellsOver    such a slot before the first new header of the magazine; the first of them
 --   SeamsAreLeft            this is the seam of a page
 use Rattle.std.specs.Prelude.{◌≡◌, ◌↔◌, ℕ, ◌-◌, ◌<◌, ◌≤◌, List, length, get_or, Option, Some, None, ℤ, pos, negsuc, ◌<ℤ◌, ◌≤ℤ◌, true, false}
@@ -34,10 +35,14 @@ IsWrongAs p slot item = (needed p item ≡ true) × (carries p.id.mag item (pack
 abbrev pub IsWrongSlot : Page → List ℕ → Type 0
 IsWrongSlot p slot = (item : Item) × IsWrongAs p slot item
 
-pub record HangsOver (new : Stream) (p : Page) (j : ℤ) : Type 0 where
+-- slot j is such, from slot 0 on, and no header of the magazine stands before it
+pub record StandsFirst (t : Stream) (mag : ℕ) (Is : List ℕ → Type 0) (j : ℤ) : Type 0 where
   pub not_before : pos 0 ≤ℤ j
-  pub no_header : (i : ℤ) → pos 0 ≤ℤ i → i <ℤ j → heads p.id.mag (packet_of (new i)) ≡ false
-  pub wrong : IsWrongSlot p (new j)
+  pub no_header : (i : ℤ) → pos 0 ≤ℤ i → i <ℤ j → heads mag (packet_of (t i)) ≡ false
+  pub such : Is (t j)
+
+abbrev pub HangsOver : Stream → Page → ℤ → Type 0
+HangsOver new p j = StandsFirst new p.id.mag (IsWrongSlot p) j
 
 -- the first such slot; None if there is none
 abbrev pub TellsOver : Stream → Page → Option ℕ → Type 0

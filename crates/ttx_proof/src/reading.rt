@@ -12,30 +12,33 @@ use ttx_files::{FilesFault, read_definition, read_packets, read_witness};
 use ttx_source::Service;
 use ttx_witness::Certificate;
 
+/// The packet files of a splice.
 #[derive(Drop)]
 pub struct Cycles {
-    pub(crate) old: Cycle,
-    pub(crate) new: Cycle,
+    pub old: Cycle,
+    pub new: Cycle,
 }
 
+/// Its service definitions.
 #[derive(Drop)]
 pub struct Services {
-    pub(crate) old: Service,
-    pub(crate) new: Service,
+    pub old: Service,
+    pub new: Service,
 }
 
+/// Its certificates.
 #[derive(Drop)]
 pub struct Witnesses {
-    pub(crate) old: Certificate,
-    pub(crate) new: Certificate,
+    pub old: Certificate,
+    pub new: Certificate,
 }
 
-// The contents of the six files.
+/// The contents of the six files.
 #[derive(Drop)]
 pub struct Six {
-    pub(crate) cycles: Cycles,
-    pub(crate) services: Services,
-    pub(crate) witnesses: Witnesses,
+    pub cycles: Cycles,
+    pub services: Services,
+    pub witnesses: Witnesses,
 }
 
 fn read_cycles<A: Read, B: Read>(
@@ -98,7 +101,7 @@ fn read_witnesses<A: Read, B: Read>(
     }
 }
 
-// Reads the six files in their order: the old one of each kind first.
+/// Reads the six files in their order: the old one of each kind first.
 pub fn read_six<A: Read, B: Read, C: Read, D: Read, E: Read, F: Read>(
     alloc: Global,
     old: &mut Counted<A>,

@@ -19,7 +19,7 @@ use ttx_page::{Page, RowNumber, needed};
 use ttx_witness::{Check, header_in, heads_page, is_wrong, row_in, sends};
 
 // Whether the slot is a header of the magazine.
-fn heads(mag: u8, slot: &[u8; 42]) -> bool
+pub(crate) fn heads(mag: u8, slot: &[u8; 42]) -> bool
     requires { IsSlot slot.now }
     ensures { result ≡ heads mag (packet_of slot.now) }
 {
@@ -55,7 +55,7 @@ pub fn latest_headers(old: &Cycle) -> [Option<usize>; 8]
 }
 
 // Whether the slot `back` slots before the last one of the period is a header of the page.
-fn is_its_header(old: &Cycle, back: usize, page: PageId) -> bool
+pub(crate) fn is_its_header(old: &Cycle, back: usize, page: PageId) -> bool
     requires { back < length (slots_of old.now) }
     ensures { result ≡ heads_page page (packet_of (repeated (slots_of old.now) (negsuc back))) }
 {

@@ -15,11 +15,15 @@ returns-in-Some c =
     both_ways _ c.if-are_wrong_links.false (c.are_wrong_links.ensures.1 v) in (
       (λ y. (TheRow c.in-Some.at.number, c.is_wrong_row.ensures.0 y)),
       (λ w. c.is_wrong_row.ensures.1
-          (only_row (page_of c.args.page.now) c.args.slot.now c.in-Some.at.mag c.in-Some.at.number _ c.in-Some.ensures none w)),
+          (only_row (page_of c.args.page.now).id.mag c.args.slot.now (IsWrongAs (page_of c.args.page.now) c.args.slot.now) (λ item v. v.1) none
+          c.in-Some.at.mag c.in-Some.at.number _ c.in-Some.ensures w)),
     )
 
 pub returns-in-None : goal.returns-in-None
 returns-in-None c =
     let none : IsWrongAs (page_of c.args.page.now) c.args.slot.now TheLinks → ⊥ = λ v.
-    both_ways _ c.if-are_wrong_links.false (c.are_wrong_links.ensures.1 v) in
-    ((λ y. absurd (both_ways false refl y)), (λ w. absurd (only_links (page_of c.args.page.now) c.args.slot.now c.in-None.ensures none w)))
+    both_ways _ c.if-are_wrong_links.false (c.are_wrong_links.ensures.1 v) in (
+      (λ y. absurd (both_ways false refl y)),
+      (λ w. absurd (only_links (page_of c.args.page.now).id.mag c.args.slot.now
+          (IsWrongAs (page_of c.args.page.now) c.args.slot.now) (λ item v. v.1) none c.in-None.ensures w)),
+    )
