@@ -27,7 +27,8 @@ use Rattle.ttx_certify.specs.Laws.{RunsAreSeen}
 use Rattle.ttx_late.specs.LateReceivers.{LateMemory, heads_number}
 use Rattle.ttx_subpages.specs.SeenInTurn.{MayEnd}
 use Rattle.ttx_subpages.specs.EndedReceivers.{EndedRun}
-use Rattle.ttx_subpages.specs.WholeBlocks.{IsSubpage, IsWhole, SendsInTurn}
+use Rattle.ttx_subpages.specs.WholeBlocks.{IsSubpage, IsWhole}
+use Rattle.ttx_subpages.specs.ListsInForce.{Lists, SendsListed}
 use Rattle.ttx_late.proofs.KeptSlots.{SameTests, same_tests}
 use Rattle.ttx_late.proofs.FollowedReceptions.{received_before}
 use Rattle.ttx_subpages.proofs.PartsOfStreams.{block_has_view}
@@ -108,8 +109,8 @@ at_places sel Done follower (slot ∷ rest) t each =
           subst (λ n. AtPlace sel Done follower n (packet_of (get_or rest i []))) f (each (suc i) (omega arith))),
     )
 
-module _ (runs : RunsAreSeen) (kind : KindIsKept) (header : HeaderIsKept) (s : Stream) (pages : List Page) (class : Class) (lines gap mag number : ℕ)
-    (few : lines ≤ 32) (sends : SendsInTurn s pages lines gap mag number) (p : Page) (sub : IsSubpage pages mag number p) (h : ℤ)
+module _ (runs : RunsAreSeen) (kind : KindIsKept) (header : HeaderIsKept) (s : Stream) (lists : Lists) (class : Class) (lines mag number : ℕ)
+    (few : lines ≤ 32) (sends : SendsListed s lists lines mag number) (h : ℤ) (p : Page) (sub : IsSubpage (lists h) mag number p)
     (head : heads_page p.id (packet_of (s h)) ≡ true) (whole : IsWhole s p lines h) (f : IsFollowed s p.id h) (follower : ℕ)
     (at : f.slot ≡ h +ℤ pos follower) where
   abbrev sel : Selection
@@ -132,7 +133,7 @@ module _ (runs : RunsAreSeen) (kind : KindIsKept) (header : HeaderIsKept) (s : S
   module _ (slot : List ℕ) (rest : List (List ℕ)) (permitted : Received s p.id 1 h (slot ∷ rest))
       (none : (j : ℤ) → h <ℤ j → j <ℤ (h +ℤ pos (suc (length rest))) → heads_matched sel (packet_of (s j)) ≡ false) where
     tests : (i : ℕ) → i < suc (length rest) → SameTests (s (h +ℤ pos i)) (get_or (slot ∷ rest) i [])
-    tests i lt = same_tests kind header (s (h +ℤ pos i)) (get_or (slot ∷ rest) i []) (sends.unchanged.slots (h +ℤ pos i)) (sends.unchanged.clean (h +ℤ pos i))
+    tests i lt = same_tests kind header (s (h +ℤ pos i)) (get_or (slot ∷ rest) i []) (sends.slots (h +ℤ pos i)) (sends.clean (h +ℤ pos i))
         (permitted.each i lt)
 
     place : (i : ℕ) → 1 ≤ i → i < suc (length rest) → AtPlace sel Done follower i (packet_of (get_or (slot ∷ rest) i []))
@@ -161,7 +162,8 @@ module _ (runs : RunsAreSeen) (kind : KindIsKept) (header : HeaderIsKept) (s : S
         Done (1 + k) → HasView p x
     view base is k x le run done =
         let e : 1 + k ≡ suc (length (take k rest)) = omega (arith, length-take-le k rest le) in
-        block_has_view runs s p sel lines h (sends.unchanged.are_pages p sub) few fits sends.unchanged.slots sends.unchanged.clean (sends.unchanged.items p sub) head (slot ∷ take k rest)
+        block_has_view runs s p sel lines h (sends.are_pages h p sub) few fits sends.slots sends.clean (sends.items h p sub) head
+        (slot ∷ take k rest)
         (λ j after before. none j after (omega (arith, ints)))
         (λ item need. (whole item need, subst (λ n. (whole item need).slot <ℤ (h +ℤ pos n)) e (done.0 item need)))
         (received_before s p.id 1 h (suc k) (slot ∷ rest) (omega arith) permitted) base x is run

@@ -69,7 +69,8 @@ module _ (runs : RunsAreSeen) (keep : StepsKeepMemories) (s : Stream) (pages : L
       (subst (λ x. Run class lines sel former x m) (sym (take-append-drop n received)) run) in
       let each = (permitted p sub).each in
       let mid_is : IsMemory parts.0 = kept keep class lines sel (take n received) former parts.0 (slots_before each n le) is parts.1 in
-      block_has_view runs s p sel lines h (sends.are_pages p sub) few fits sends.slots sends.clean (sends.items p sub) head (drop n received)
+      block_has_view runs s p sel lines h (sends.are_pages p sub) few fits sends.slots sends.clean (λ item checked j owned. sends.items p sub item checked h j owned) head
+      (drop n received)
       (λ j after before. none j after (omega (arith, ints)))
       (subst (IsWholeBefore s p lines h) now whole)
       (received_later s p.id 1 tau h n at received le (permitted p sub)) parts.0 m mid_is

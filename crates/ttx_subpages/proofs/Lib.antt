@@ -2,6 +2,7 @@ mod PartsOfStreams
 mod OneClass
 mod EndedBlocks
 mod BlocksReceived
+mod ListedBlocks
 mod SubpagesInTurn
 mod AcceptedSubpages
 mod HeldBlocks

@@ -1,6 +1,6 @@
 -- The longest interval of the subpages of a number.
-use Rattle.std.proofs.Common.{◌≡◌, ◌⊎◌, ℕ, zero, suc, ◌+◌, ◌<◌, ◌≤◌, pos, ◌+ℤ◌, ◌<ℤ◌, ◌≤ℤ◌, true, false, ◌==◌, nat_lt, List, length, slice_get, Option, Some, None, MatchOption}
-use Rattle.std.proofs.Common.{refl, sym, ap, ◌∙◌, subst, inl, inr, arith, eq-eqb, eqb-true, if◌then◌else◌}
+use Rattle.std.proofs.Common.{◌≡◌, ◌⊎◌, ℕ, ◌+◌, ◌≤◌, true, false, ◌==◌, nat_lt, List, length, slice_get, Option, Some, None}
+use Rattle.std.proofs.Common.{refl, sym, ◌∙◌, subst, inl, inr, arith, eq-eqb, eqb-true}
 use Rattle.std.proofs.lemmas.Int.{ints}
 use Rattle.std.proofs.lemmas.Bool.{and_from, and_parts, both_ways, cases_lt, cases_Bool, ltb-true, lt-ltb}
 use Rattle.std.proofs.lemmas.Option.{slice_get_within}
@@ -12,8 +12,8 @@ use Rattle.ttx_page.specs.declared.selection.Selection.TheVariants.{Exact}
 use Rattle.ttx_page.specs.Streams.{Stream, heads_matched}
 use Rattle.ttx_subpages.specs.Numbers.{has_number}
 use Rattle.ttx_subpages.specs.WholeBlocks.{IsSubpage}
-use Rattle.ttx_subpages.specs.Stays.{HeadsAt, HasNone, ComesAgainWithin, IsGreatestInterval}
-use Rattle.ttx_subpages.specs.Intervals.{IsAmong, HasUnsent, IsLongestBelow, LongestBelow, IsLongest, IsUnsent, IsIntervalOf, longer_of}
+use Rattle.ttx_subpages.specs.Stays.{HasNone, ComesAgainWithin, IsGreatestInterval}
+use Rattle.ttx_subpages.specs.Intervals.{IsAmong, IsLongestBelow, LongestBelow, IsIntervalOf, longer_of}
 
 -- an interval is 0 exactly where there is no header
 module _ (s : Stream) (sel : Selection) where

@@ -1,6 +1,6 @@
 -- The next header after a slot, read round the cycle.
-use Rattle.std.proofs.Common.{◌≡◌, ℕ, ◌+◌, ◌-◌, ◌%◌, ◌<◌, ◌≤◌, ℤ, pos, ◌+ℤ◌, ◌-ℤ◌, ◌<ℤ◌, ◌≤ℤ◌, nat_abs, true, false, not, ◌&&◌, ◌||◌, ◌==◌, List, [], length, get_or}
-use Rattle.std.proofs.Common.{nat_lt, Option, Some, None, MatchOption, refl, sym, ap, ◌∙◌, subst, inl, inr, arith, mod-eq_of_lt}
+use Rattle.std.proofs.Common.{◌≡◌, ℕ, ◌+◌, ◌-◌, ◌%◌, ◌<◌, ◌≤◌, ℤ, pos, ◌+ℤ◌, ◌-ℤ◌, ◌<ℤ◌, ◌≤ℤ◌, nat_abs, true, false, not, ◌||◌, ◌==◌, List, [], length, get_or}
+use Rattle.std.proofs.Common.{nat_lt, Option, Some, None, MatchOption, refl, sym, ap, ◌∙◌, subst, inl, inr, arith}
 use Rattle.std.proofs.lemmas.Int.{ints}
 use Rattle.std.proofs.lemmas.Bool.{and_from, and_parts, or_left, or_right, both_ways, cases_lt, cases_Bool, ltb-true, lt-ltb}
 use Rattle.std.proofs.Math.Nat.{add-mod_right}

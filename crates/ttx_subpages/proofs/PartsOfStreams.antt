@@ -23,7 +23,7 @@ use Rattle.ttx_page.specs.Steady.{IsChecked, IsTrueTo}
 use Rattle.ttx_page.proofs.SlotDistances.{cases_ltz}
 use Rattle.ttx_receiver.specs.Laws.{IsSteadyFrom, IsBrought}
 use Rattle.ttx_late.proofs.KeptSlots.{packet_empty}
-use Rattle.ttx_late.proofs.RunsAreShown.{owner_heads}
+use Rattle.ttx_late.proofs.RunsAreShown.{owner_heads, page_matched}
 use Rattle.ttx_certify.specs.Seen.{HasView}
 use Rattle.ttx_certify.specs.Laws.{RunsAreSeen}
 use Rattle.ttx_subpages.specs.WholeBlocks.{IsWholeBefore}
@@ -199,7 +199,7 @@ module _ (s : Stream) (h : ℤ) (page : Id) (received : List (List ℕ)) (permit
 -- What a receiver holds after the whole block of a page: the page's View, whatever it held before.
 pub block_has_view : RunsAreSeen → (s : Stream) (p : Page) (sel : Selection) (lines : ℕ) (h : ℤ) → IsPage p → lines ≤ 32 →
     matches sel p.id ≡ true → ((j : ℤ) → IsSlot (s j)) → ((j : ℤ) → is_clean (s j) ≡ true) →
-    ((item : Item) → IsChecked p item → (k j : ℤ) → IsOwned s p.id item k j → IsTrueTo p item (s j)) →
+    ((item : Item) → IsChecked p item → (j : ℤ) → IsOwned s p.id item h j → IsTrueTo p item (s j)) →
     heads_page p.id (packet_of (s h)) ≡ true → (received : List (List ℕ)) →
     ((j : ℤ) → h <ℤ j → j <ℤ (h +ℤ pos (length received)) → heads_matched sel (packet_of (s j)) ≡ false) →
     IsWholeBefore s p lines h (h +ℤ pos (length received)) → Received s p.id 1 h received →
@@ -230,8 +230,14 @@ block_has_view runs s p sel lines h page few fits slots clean items head receive
           ];
       items = λ item checked k j le owned.
           let o = owned_there s h now p.id item k j owned in
-          let first = (owner_heads s p.id item k j o.2).0 in
-          subst (IsTrueTo p item) (sym (part_inside s h now j (omega (arith, ints)) o.1)) (items item checked k j o.2);
+          let first = owner_heads s p.id item k j o.2 in
+          let after = first.0 in
+          let same : k ≡ h = elim (cases_ltz h k) as (λ _. k ≡ h) [
+            | inr ge ↦ omega (arith, ints)
+            | inl lt ↦ absurd (both_ways _ (none k lt (let below = o.1 in omega (arith, ints))) (page_matched sel p.id fits (packet_of (s k)) first.1))
+          ] in
+          subst (IsTrueTo p item) (sym (part_inside s h now j (omega (arith, ints)) o.1))
+          (items item checked j (subst (λ z. IsOwned s p.id item z j) same o.2));
     }
 
     brought : (item : Item) → needed p item ≡ true → IsBrought t p Any lines 1 item h now

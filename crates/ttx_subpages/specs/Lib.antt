@@ -13,3 +13,4 @@ pub mod NumbersVerdicts
 pub mod NumberReports
 pub mod NumberWaits
 pub mod CertifyingNumbers
+pub mod ListsInForce

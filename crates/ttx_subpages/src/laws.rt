@@ -2,7 +2,19 @@
 
 ghost use Rattle.ttx_subpages.specs.PlannedSubpages.{PlannedSendWhole, PlannedAreSeen};
 ghost use Rattle.ttx_subpages.specs.RepeatTwo.{IsMixed};
-ghost use Rattle.ttx_subpages.specs.Laws.{BlocksAreSeen, AcceptedAreSeen, BlocksAreHeld, AcceptedAreHeld, AcceptedAreSeenAgain, StaysAreShown, EachListRunsEnded};
+ghost use Rattle.ttx_subpages.specs.Laws.{ListedBlocksAreSeen, BlocksAreSeen, AcceptedAreSeen, AcceptedAreSeenAgain};
+ghost use Rattle.ttx_subpages.specs.Laws.{BlocksAreHeld, AcceptedAreHeld, StaysAreShown, EachListRunsEnded};
+
+/// In any stream, whose pages may change: from the end of a block of a number on a receiver that shows a page only where it ends shows one
+/// of the pages in force since, whole.
+pub fn listed_blocks_are_seen()
+    ensures { ListedBlocksAreSeen }
+{
+    ttx_certify::laws::runs_are_seen();
+    ttx_packet::laws::kind_is_kept();
+    ttx_header::laws::header_is_kept();
+    ttx_receiver::laws::steps_keep_memories();
+}
 
 /// In any stream: subpages of a number that are sent whole are seen in turn.
 pub fn blocks_are_seen()

@@ -1,4 +1,4 @@
-use Rattle.std.proofs.Common.{◌+◌, ◌∙◌, sym, subst, ap}
+use Rattle.std.proofs.Common.{◌+◌, ◌∙◌, sym, subst}
 use Rattle.ttx_cycle.specs.Cycles.{slots_of}
 use Rattle.ttx_page.specs.Streams.{repeated}
 use Rattle.ttx_page.specs.Views.{page_of}

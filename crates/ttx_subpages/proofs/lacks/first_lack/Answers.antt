@@ -1,7 +1,3 @@
-use Rattle.std.proofs.Common.{MatchOption, map, subst}
-use Rattle.ttx_cycle.specs.Cycles.{slots_of}
-use Rattle.ttx_page.specs.Streams.{repeated}
-use Rattle.ttx_page.specs.Views.{page_of}
 use Rattle.ttx_certify.proofs.AuthoredIds.{distinct_ids}
 use Rattle.ttx_subpages.proofs.lacks.first_lack.Goals as goal
 
