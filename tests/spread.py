@@ -3,9 +3,10 @@
 
 usage: spread.py PROGRAM
 
-Services are drawn with a fixed seed. The plain program lays out the rounds, looks at every slot, and doubles `often` one page at a time, with a
+Services are drawn with a fixed seed, every third with subpages. The plain program lays out the rounds, looks at every slot, and doubles `often` one page at a time, with a
 whole plan after each step. Compared are: the slots of `plan --spread`; the deadline that `find` gives, and what it says with a deadline one
 field less and seven more; that `certify` says yes; and for promises the cycle with the pages sent as often as that takes, or the late pages.
+In the plain program's places no two pages of one number stand in one round while another round has none of them.
 """
 import os
 import random
@@ -22,16 +23,43 @@ def length_of(page):
 
 
 def places(pages):
-    """Each page's place: those sent most often first, each at the first place whose rounds have the fewest packets so far."""
-    loads, at = [0] * 8, [0] * len(pages)
+    """Each page's place: those sent most often first, each where its number has the fewest pages so far, then nearest behind its turn, then
+    where the rounds have the fewest packets. Pages of a number sent equally often have their turns at equal distances, by their subcodes."""
+    loads, at = [0] * 8, [None] * len(pages)
     for often in (8, 4, 2, 1):
         for index, page in enumerate(pages):
             if page["often"] == often:
-                period = 8 // often
-                at[index] = min(range(period), key=lambda place: (loads[place], place))
-                for turn in range(at[index], 8, period):
+                at[index] = place_of(pages, at, loads, index)
+                for turn in range(at[index], 8, 8 // often):
                     loads[turn] += length_of(page)
     return at
+
+
+def place_of(pages, at, loads, index):
+    """The place of one page, from those that have theirs."""
+    page, numbers = pages[index], numbers_of(pages)
+    period = 8 // page["often"]
+    mates = [other for other, number in enumerate(numbers) if number == numbers[index]]
+    group = sorted((other for other in mates if pages[other]["often"] == page["often"]), key=lambda other: pages[other]["sub"])
+    first = min(group)
+    steps = (group.index(index) - group.index(first)) % len(group)
+
+    def weighed(place):
+        earlier = sum(at[other] is not None and place % (8 // pages[other]["often"]) == at[other] for other in mates)
+        late = 0 if index == first else (place - at[first] - steps * period // len(group)) % period
+        return earlier, late, loads[place], place
+
+    return min(range(period), key=weighed)
+
+
+def unshared(pages, at):
+    """A number whose pages stand in one round together while another round has none of them; None if there is none."""
+    numbers = numbers_of(pages)
+    for number in set(numbers):
+        counts = [sum(numbers[index] == number and turn % (8 // page["often"]) == at[index] for index, page in enumerate(pages)) for turn in range(8)]
+        if max(counts) > 1 and min(counts) == 0:
+            return number
+    return None
 
 
 def blocks(pages):
@@ -136,36 +164,28 @@ def choose(pages, lines, is_serial, info, repeat=1):
         steps += 1
 
 
-def named(slots, pages, is_serial):
+def named(slots, pages):
     """The slots as `inspect` begins their lines: magazines in the order of their numbers end a cycle with a time-filling header."""
-    told, numbers, seen = [], [], {}
-    for page in pages:
-        numbers.append(seen.get(page["mag"], 0))
-        seen[page["mag"]] = numbers[-1] + 1
+    told, numbers = [], numbers_of(pages)
     for what in slots:
         if what is None:
             told.append(None)  # an empty slot, a time-filling header or 8/30
         else:
             index, item = what
-            mag = pages[index]["mag"]
-            told.append(f"{mag}/0 header {mag}{numbers[index]:02X}" if item == 0 else f"{mag}/27 links" if item == 25 else f"{mag}/{item} row")
+            page, mag = pages[index], pages[index]["mag"]
+            header = f"{mag}/0 header {numbers[index]}/{page['sub']:04X}"
+            told.append(header if item == 0 else f"{mag}/27 links" if item == 25 else f"{mag}/{item} row")
     return told
 
 
 def numbers_of(pages):
-    """The page number of each page, by its magazine."""
-    told, seen = [], {}
-    for page in pages:
-        number = seen.get(page["mag"], 0)
-        seen[page["mag"]] = number + 1
-        told.append(f"{page['mag']}{number:02X}")
-    return told
+    return [f"{page['mag']}{page['number']:02X}" for page in pages]
 
 
 def text_of(pages, lines, is_serial):
     text = f"lines = {lines}\nserial = {str(is_serial).lower()}\n"
     for number, page in zip(numbers_of(pages), pages):
-        text += f'[[page]]\nnumber = "{number}"\n'
+        text += f'[[page]]\nnumber = "{number}"\nsub = "{page["sub"]:04X}"\n'
         text += f"often = {page['often']}\n" if page["fixed"] else ""
         text += f"within = {page['within'] / 50:.2f}\n" if page["within"] else ""
         text += "inhibit = true\n" if page["rows"] == 0 else ""
@@ -177,10 +197,10 @@ def run(program, *words):
     return done.returncode, done.stdout
 
 
-def wrong_slots(program, slots, pages, is_serial):
+def wrong_slots(program, slots, pages):
     """What is wrong with the cycle that was planned, or None."""
     shown = [line.split(" ", 1)[1] for line in run(program, "inspect", "cycle")[1].splitlines()]
-    wanted = named(slots, pages, is_serial)
+    wanted = named(slots, pages)
     if len(shown) != len(wanted):
         return f"{len(shown)} slots and not {len(wanted)}"
     for at, (has, want) in enumerate(zip(shown, wanted)):
@@ -213,14 +233,16 @@ def wrong_plan(program, pages, lines, is_serial):
         file.write(text_of(pages, lines, is_serial))
     status, line = run(program, "plan", "service", "cycle", "--spread")
     _, late, slots, told = choose(pages, lines, is_serial, False)
+    if unshared(pages, places(pages)):
+        return f"pages of {unshared(pages, places(pages))} stand together"
     if late:
         numbers = numbers_of(pages)
         places = sorted(-index for _, index in late)
-        wanted = "".join(f"late {numbers[at]}/0000 {told[at]} fields of {pages[at]['within']}\n" for at in places)
+        wanted = "".join(f"late {numbers[at]}/{pages[at]['sub']:04X} {told[at]} fields of {pages[at]['within']}\n" for at in places)
         return None if (status, line) == (1, wanted) else f"plan: {status} {line!r} and not {wanted!r}"
     if (status, line) != (0, f"planned {len(slots)} slots\n"):
         return f"plan: {status} {line}"
-    return wrong_slots(program, slots, pages, is_serial) or wrong_deadlines(program, max(told))
+    return wrong_slots(program, slots, pages) or wrong_deadlines(program, max(told))
 
 
 def drawn_page(draw, mags, with_promises):
@@ -235,6 +257,16 @@ def drawn_page(draw, mags, with_promises):
     }
 
 
+def number(draw, pages, with_subpages):
+    """Gives each page a number in its magazine, some of them that of an earlier page, and subcodes in any order."""
+    subcodes = draw.sample(range(1, 0x40), len(pages))
+    for index, page in enumerate(pages):
+        earlier = [other["number"] for other in pages[:index] if other["mag"] == page["mag"]]
+        shared = with_subpages and earlier and draw.random() < 0.5
+        page["number"] = draw.choice(earlier) if shared else len(set(earlier))
+        page["sub"] = subcodes[index] if with_subpages else 0
+
+
 def main():
     draw, told = random.Random(3), []
     program = os.path.realpath(sys.argv[1])
@@ -243,6 +275,7 @@ def main():
         for case in range(CASES):
             mags = draw.sample(range(1, 9), draw.randint(1, 8))
             pages = [drawn_page(draw, mags, case % 2 == 1) for _ in range(draw.randint(1, 40))]
+            number(draw, pages, case % 3 == 2)
             what = wrong_plan(program, pages, draw.choice([1, 2, 3, 8, 12, 16]), draw.random() < 0.5)
             told += [f"case {case}: {what}"] if what else []
         os.chdir("/")

@@ -37,6 +37,10 @@ pub mod SteadyPages
 mod PlannedAcceptance
 mod PlannedFollowers
 mod PageLinks
+mod SubpageLists
+mod PlacedPages
+mod SpreadBurdens
+mod LonePages
 mod SpreadPlaces
 mod SpreadPasses
 mod SpreadPages

@@ -1,78 +1,25 @@
--- There is one way to spread blocks: two lists that differ only in their places, and are both spread, are equal.
-use Rattle.std.proofs.Common.{◌≡◌, ℕ, zero, suc, ◌/◌, ◌<◌, ◌≤◌, Bool, true, eqb, ltb, List, [], ◌∷◌, ◌++◌, length, take}
-use Rattle.std.proofs.Common.{Some, None, refl, sym, ap, ◌∙◌, subst, arith, inl, inr}
-use Rattle.std.specs.Prelude.{slice_get, filter}
-use Rattle.std.specs.List.{AllByRecursion}
-use Rattle.std.proofs.lemmas.Bool.{cond-true, cond-false, cases_Bool, cases_order, cases_eq, ltb-true, eqb-true}
+-- There is one way to spread pages: two lists of places by which the same pages are spread place their blocks alike.
+use Rattle.std.proofs.Common.{◌≡◌, ℕ, zero, suc, ◌/◌, ◌<◌, ◌≤◌, Bool, true, false, eqb, ltb, ◌&&◌, List, [], ◌∷◌, length, get_or}
+use Rattle.std.proofs.Common.{Some, refl, sym, ap, ◌∙◌, subst, arith, inl, inr}
+use Rattle.std.specs.Prelude.{slice_get}
+use Rattle.std.proofs.lemmas.Bool.{cases_order, cases_eq, ltb-true, eqb-true, or_cases}
 use Rattle.std.proofs.lemmas.Option.{slice_get_within}
-use Rattle.ttx_plan.specs.Blocks.{Block, at_place, placed, round_of, packets_in}
+use Rattle.ttx_page.specs.declared.class.Class.{Class}
+use Rattle.ttx_source.specs.Services.{Authored}
+use Rattle.ttx_plan.specs.Blocks.{Block, at_place, placed}
+use Rattle.ttx_plan.specs.Carries.{block_at, blocks_of}
 use Rattle.ttx_plan.specs.Ranges.{IsOften}
-use Rattle.ttx_plan.specs.Spread.{earlier, packets_so_far, IsFirstLeast, IsSpread}
-use Rattle.ttx_plan.proofs.SpreadPages.{placed_size}
-use Rattle.ttx_plan.proofs.SpreadPasses.{IsOftenBlock, at_most_half, often_of}
+use Rattle.ttx_plan.specs.Spread.{burden_so_far, IsFirstLeast, IsSpread}
+use Rattle.ttx_plan.proofs.SubpageLists.{listed_at}
+use Rattle.ttx_plan.proofs.PlacedPages.{page_block, blocks_size}
+use Rattle.ttx_plan.proofs.SpreadBurdens.{AgreeBefore, burden_alike}
+use Rattle.ttx_plan.proofs.SpreadPasses.{AreOften, at_most_half}
+use Rattle.ttx_plan.proofs.SpreadPlaces.{first_least_each}
 
--- the same blocks with other places
-record AreAlike (xs ys : List Block) : Type 0 where
-  size : length xs ≡ length ys
-  each : (k : ℕ) (x y : Block) → slice_get xs k ≡ Some x → slice_get ys k ≡ Some y → at_place 0 x ≡ at_place 0 y
-
--- the places agree for the blocks that are sent more often, and for those before the index that are sent just as often
-record Agree (xs ys : List Block) (often index : ℕ) : Type 0 where
-  more : (k : ℕ) (x y : Block) → slice_get xs k ≡ Some x → slice_get ys k ≡ Some y → often < x.often → x ≡ y
-  same : (k : ℕ) (x y : Block) → slice_get xs k ≡ Some x → slice_get ys k ≡ Some y → x.often ≡ often → k < index → x ≡ y
-
--- the blocks before one agree
-
-filter_alike : (test : Block → Bool) (xs ys : List Block) → length xs ≡ length ys →
-    ((k : ℕ) (x y : Block) → slice_get xs k ≡ Some x → slice_get ys k ≡ Some y → (test x ≡ test y) × (test x ≡ true → x ≡ y)) →
-    filter test xs ≡ filter test ys
-filter_alike test [] [] size each = refl
-filter_alike test [] (y ∷ ys) size each = absurd (omega (arith, size))
-filter_alike test (x ∷ xs) [] size each = absurd (omega (arith, size))
-filter_alike test (x ∷ xs) (y ∷ ys) size each =
-    let here : (test x ≡ test y) × (test x ≡ true → x ≡ y) = each 0 x y refl refl in
-    let shorter : length xs ≡ length ys = omega (arith, size) in
-    let rest : filter test xs ≡ filter test ys = filter_alike test xs ys shorter (λ k u v e f. each (suc k) u v e f) in
-    elim (cases_Bool (test x)) [
-      | inl t ↦
-          cond-true (test x) (x ∷ filter test xs) (filter test xs) t ∙ ap (λ z. z ∷ filter test xs) (here.1 t) ∙ ap (λ z. y ∷ z) rest
-          ∙ sym (cond-true (test y) (y ∷ filter test ys) (filter test ys) (sym here.0 ∙ t))
-      | inr f ↦
-          cond-false (test x) (x ∷ filter test xs) (filter test xs) f ∙ rest
-          ∙ sym (cond-false (test y) (y ∷ filter test ys) (filter test ys) (sym here.0 ∙ f))
-    ]
-
-get_taken : (n : ℕ) (xs : List Block) (k : ℕ) (x : Block) → slice_get (take n xs) k ≡ Some x → (k < n) × (slice_get xs k ≡ Some x)
-get_taken zero xs k x e = let f : None ≡ Some x = e in cc
-get_taken (suc n) [] k x e = let f : None ≡ Some x = e in cc
-get_taken (suc n) (z ∷ xs) zero x e = (omega arith, e)
-get_taken (suc n) (z ∷ xs) (suc k) x e = let r = get_taken n xs k x e in (omega (arith, r.0), r.1)
-
-take_sizes : (n : ℕ) (xs ys : List Block) → length xs ≡ length ys → length (take n xs) ≡ length (take n ys)
-take_sizes zero xs ys size = refl
-take_sizes (suc n) [] [] size = refl
-take_sizes (suc n) [] (y ∷ ys) size = absurd (omega (arith, size))
-take_sizes (suc n) (x ∷ xs) [] size = absurd (omega (arith, size))
-take_sizes (suc n) (x ∷ xs) (y ∷ ys) size = ap suc (take_sizes n xs ys (omega (arith, size)))
-
-as_often : (xs ys : List Block) (k : ℕ) (x y : Block) → AreAlike xs ys → slice_get xs k ≡ Some x → slice_get ys k ≡ Some y → x.often ≡ y.often
-as_often xs ys k x y alike e f = ap (λ (b : Block). b.often) (alike.each k x y e f)
-
-earlier_alike : (xs ys : List Block) (often n : ℕ) → AreAlike xs ys → Agree xs ys often n → earlier xs often n ≡ earlier ys often n
-earlier_alike xs ys often n alike agree =
-    ap (λ z. z ++ filter (λ b. eqb b.often often) (take n xs))
-    (filter_alike (λ b. ltb often b.often) xs ys alike.size
-    (λ k x y e f. (ap (λ m. ltb often m) (as_often xs ys k x y alike e f), λ t. agree.more k x y e f (ltb-true often x.often t))))
-    ∙ ap (λ z. filter (λ b. ltb often b.often) ys ++ z)
-    (filter_alike (λ b. eqb b.often often) (take n xs) (take n ys) (take_sizes n xs ys alike.size)
-    (λ k x y e f.
-    let there = get_taken n xs k x e in
-    let other = get_taken n ys k y f in (
-      ap (λ m. eqb m often) (as_often xs ys k x y alike there.1 other.1),
-      λ t. agree.same k x y there.1 other.1 (eqb-true x.often often t) there.0,
-    )))
-
--- block after block
+-- the places agree for the pages that are sent more often, and for those before the index that are sent just as often
+record Agree (pages : List Authored) (places others : List ℕ) (often index : ℕ) : Type 0 where
+  more : (k : ℕ) (p : Authored) → slice_get pages k ≡ Some p → often < p.often → get_or places k 0 ≡ get_or others k 0
+  same : (k : ℕ) (p : Authored) → slice_get pages k ≡ Some p → p.often ≡ often → k < index → get_or places k 0 ≡ get_or others k 0
 
 first_least_once : (value : ℕ → ℕ) (count a b : ℕ) → IsFirstLeast value count a → IsFirstLeast value count b → a ≡ b
 first_least_once value count a b l m = elim (cases_order a b) [
@@ -83,51 +30,83 @@ first_least_once value count a b l m = elim (cases_order a b) [
   ]
 ]
 
-by_place : (x y : Block) → at_place 0 x ≡ at_place 0 y → x.place ≡ y.place → x ≡ y
-by_place x y e place = ap (at_place x.place) e ∙ ap (λ n. at_place n y) place
+agree_before : (pages : List Authored) (places others : List ℕ) (often n : ℕ) (p : Authored) → p.often ≡ often → Agree pages places others often n →
+    AgreeBefore pages places others n p
+agree_before pages places others often n p is agree = λ k q e before.
+    elim (or_cases (ltb p.often q.often) (eqb q.often p.often && ltb k n) before) as (λ _. get_or places k 0 ≡ get_or others k 0) [
+      | inl more ↦
+          let lt : p.often < q.often = ltb-true p.often q.often more in
+          agree.more k q e (omega (arith, lt, is))
+      | inr both ↦
+          let same : q.often ≡ p.often = eqb-true q.often p.often (first (eqb q.often p.often) (ltb k n) both) in
+          agree.same k q e (same ∙ is) (ltb-true k n (second (eqb q.often p.often) (ltb k n) both))
+    ]
+  where
+    first : (a b : Bool) → (a && b) ≡ true → a ≡ true
+    first true b t = refl
+    first false b t = cc
 
-agree_next : (xs ys : List Block) (often n : ℕ) → AreAlike xs ys → IsSpread xs → IsSpread ys → Agree xs ys often n → Agree xs ys often (suc n)
-agree_next xs ys often n alike spread_x spread_y agree = record {
+    second : (a b : Bool) → (a && b) ≡ true → b ≡ true
+    second true b t = t
+    second false b t = cc
+
+agree_next : (class : Class) (pages : List Authored) (places others : List ℕ) (often n : ℕ) → IsSpread class pages places →
+    IsSpread class pages others → Agree pages places others often n → Agree pages places others often (suc n)
+agree_next class pages places others often n one two agree = record {
   more = agree.more;
-  same = λ k x y e f is lt. elim (cases_eq k n) [
+  same = λ k p e is lt. elim (cases_eq k n) [
     | inl here ↦
-        let before = earlier_alike xs ys often n alike agree in
-        let alike_here = alike.each k x y e f in
-        let same_often : y.often ≡ x.often = sym (ap (λ (b : Block). b.often) alike_here) in
-        let one : IsFirstLeast (packets_so_far xs often n) (8 / often) x.place =
-        subst (λ m. IsFirstLeast (packets_so_far xs often m) (8 / often) x.place) here
-        (subst (λ m. IsFirstLeast (packets_so_far xs m k) (8 / m) x.place) is (spread_x k x e)) in
-        let two : IsFirstLeast (packets_so_far ys often n) (8 / often) y.place =
-        subst (λ m. IsFirstLeast (packets_so_far ys often m) (8 / often) y.place) here
-        (subst (λ m. IsFirstLeast (packets_so_far ys m k) (8 / m) y.place) (same_often ∙ is) (spread_y k y f)) in
-        let both : IsFirstLeast (packets_so_far ys often n) (8 / often) x.place =
-        subst (λ bs. IsFirstLeast (λ round. packets_in (round_of bs round)) (8 / often) x.place) before one in
-        by_place x y alike_here (first_least_once (packets_so_far ys often n) (8 / often) x.place y.place both two)
-    | inr apart ↦ agree.same k x y e f is (omega (arith, lt, apart))
+        let listed : slice_get pages n ≡ Some p = ap (slice_get pages) (sym here) ∙ e in
+        let alike = agree_before pages places others often n p is agree in
+        ap (λ i. get_or places i 0) here
+        ∙ first_least_once (burden_so_far class pages others n p) (8 / p.often) (get_or places n 0) (get_or others n 0)
+        (first_least_each (burden_so_far class pages places n p) (burden_so_far class pages others n p) (8 / p.often) (get_or places n 0)
+        (λ round. burden_alike class pages places others n p round listed alike) (one n p listed))
+        (two n p listed)
+        ∙ ap (λ i. get_or others i 0) (sym here)
+    | inr apart ↦ agree.same k p e is (omega (arith, lt, apart))
   ];
 }
 
-agree_all : (xs ys : List Block) (often n : ℕ) → AreAlike xs ys → IsSpread xs → IsSpread ys → Agree xs ys often 0 → Agree xs ys often n
-agree_all xs ys often zero alike spread_x spread_y agree = agree
-agree_all xs ys often (suc n) alike spread_x spread_y agree =
-    agree_next xs ys often n alike spread_x spread_y (agree_all xs ys often n alike spread_x spread_y agree)
+agree_all : (class : Class) (pages : List Authored) (places others : List ℕ) (often n : ℕ) → IsSpread class pages places →
+    IsSpread class pages others → Agree pages places others often 0 → Agree pages places others often n
+agree_all class pages places others often zero one two agree = agree
+agree_all class pages places others often (suc n) one two agree =
+    agree_next class pages places others often n one two (agree_all class pages places others often n one two agree)
 
-agree_half : (xs ys : List Block) (often : ℕ) → IsOften often → AllByRecursion IsOftenBlock xs → AreAlike xs ys → IsSpread xs → IsSpread ys →
-    Agree xs ys often 0 → Agree xs ys (often / 2) 0
-agree_half xs ys often o a alike spread_x spread_y start =
-    let whole = agree_all xs ys often (length xs) alike spread_x spread_y start in
+agree_half : (class : Class) (pages : List Authored) (places others : List ℕ) (often : ℕ) → IsOften often → AreOften pages →
+    IsSpread class pages places → IsSpread class pages others → Agree pages places others often 0 → Agree pages places others (often / 2) 0
+agree_half class pages places others often o a one two start =
+    let whole = agree_all class pages places others often (length pages) one two start in
     record {
-      more = λ k x y e f lt. elim (cases_order often x.often) [
-        | inl same ↦ whole.same k x y e f (sym same) (slice_get_within xs k x e)
+      more = λ k p e lt. elim (cases_order often p.often) [
+        | inl same ↦ whole.same k p e (sym same) (slice_get_within pages k p e)
         | inr apart ↦ elim apart [
-          | inl more ↦ whole.more k x y e f more
+          | inl more ↦ whole.more k p e more
           | inr less ↦
-              let half : x.often ≤ often / 2 = at_most_half often x.often o (often_of xs k x a e) less in
+              let half : p.often ≤ often / 2 = at_most_half often p.often o (a k p e) less in
               absurd (omega (arith, half, lt))
         ]
       ];
-      same = λ k x y e f is lt. absurd (omega (arith, lt));
+      same = λ k p e is lt. absurd (omega (arith, lt));
     }
+
+places_once : (class : Class) (pages : List Authored) (places others : List ℕ) → AreOften pages → IsSpread class pages places →
+    IsSpread class pages others → (k : ℕ) (p : Authored) → slice_get pages k ≡ Some p → get_or places k 0 ≡ get_or others k 0
+places_once class pages places others a one two =
+    let once : IsOften 1 = record { some = omega arith; most = omega arith; divides = refl } in
+    let twice : IsOften 2 = record { some = omega arith; most = omega arith; divides = refl } in
+    let four : IsOften 4 = record { some = omega arith; most = omega arith; divides = refl } in
+    let eight : IsOften 8 = record { some = omega arith; most = omega arith; divides = refl } in
+    let start : Agree pages places others 8 0 = record {
+      more = λ k p e lt. let o : IsOften p.often = a k p e in absurd (omega (arith, lt, o.most));
+      same = λ k p e is lt. absurd (omega (arith, lt));
+    } in
+    let at_4 : Agree pages places others 4 0 = agree_half class pages places others 8 eight a one two start in
+    let at_2 : Agree pages places others 2 0 = agree_half class pages places others 4 four a one two at_4 in
+    let at_1 : Agree pages places others 1 0 = agree_half class pages places others 2 twice a one two at_2 in
+    let at_0 : Agree pages places others 0 0 = agree_half class pages places others 1 once a one two at_1 in
+    λ k p e. let o : IsOften p.often = a k p e in at_0.more k p e (omega (arith, o.some))
 
 all_equal : (xs ys : List Block) → length xs ≡ length ys →
     ((k : ℕ) (x y : Block) → slice_get xs k ≡ Some x → slice_get ys k ≡ Some y → x ≡ y) → xs ≡ ys
@@ -137,46 +116,17 @@ all_equal (x ∷ xs) [] size each = absurd (omega (arith, size))
 all_equal (x ∷ xs) (y ∷ ys) size each =
     ap (λ z. z ∷ xs) (each 0 x y refl refl) ∙ ap (λ z. y ∷ z) (all_equal xs ys (omega (arith, size)) (λ k u v e f. each (suc k) u v e f))
 
-spread_alike : (xs ys : List Block) → AllByRecursion IsOftenBlock xs → AreAlike xs ys → IsSpread xs → IsSpread ys → xs ≡ ys
-spread_alike xs ys a alike spread_x spread_y =
-    let once : IsOften 1 = record { some = omega arith; most = omega arith; divides = refl } in
-    let twice : IsOften 2 = record { some = omega arith; most = omega arith; divides = refl } in
-    let four : IsOften 4 = record { some = omega arith; most = omega arith; divides = refl } in
-    let eight : IsOften 8 = record { some = omega arith; most = omega arith; divides = refl } in
-    let start : Agree xs ys 8 0 = record {
-      more = λ k x y e f lt. let o : IsOften x.often = often_of xs k x a e in absurd (omega (arith, lt, o.most));
-      same = λ k x y e f is lt. absurd (omega (arith, lt));
-    } in
-    let at_4 : Agree xs ys 4 0 = agree_half xs ys 8 eight a alike spread_x spread_y start in
-    let at_2 : Agree xs ys 2 0 = agree_half xs ys 4 four a alike spread_x spread_y at_4 in
-    let at_1 : Agree xs ys 1 0 = agree_half xs ys 2 twice a alike spread_x spread_y at_2 in
-    let at_0 : Agree xs ys 0 0 = agree_half xs ys 1 once a alike spread_x spread_y at_1 in
-    all_equal xs ys alike.size
-    (λ k x y e f. let o : IsOften x.often = often_of xs k x a e in at_0.more k x y e f (omega (arith, o.some)))
-
--- places of the same blocks
-
-first_place : (places : List ℕ) (blocks : List Block) (k : ℕ) (x : Block) → slice_get (placed places blocks) k ≡ Some x → (b : Block)
-    × ((slice_get blocks k ≡ Some b) × (at_place 0 x ≡ at_place 0 b))
-first_place [] blocks k x e = (x, (e, refl))
-first_place (place ∷ places) [] k x e = let f : None ≡ Some x = e in cc
-first_place (place ∷ places) (b ∷ blocks) zero x e =
-    let f : Some (at_place place b) ≡ Some x = e in
-    let g : at_place place b ≡ x = cc in
-    (b, (refl, ap (at_place 0) (sym g)))
-first_place (place ∷ places) (b ∷ blocks) (suc k) x e = first_place places blocks k x e
-
-placed_alike : (places others : List ℕ) (blocks : List Block) → AreAlike (placed places blocks) (placed others blocks)
-placed_alike places others blocks = record {
-  size = placed_size places blocks ∙ sym (placed_size others blocks);
-  each = λ k x y e f.
-      let one = first_place places blocks k x e in
-      let two = first_place others blocks k y f in
-      let found : Some one.0 ≡ Some two.0 = sym one.1.0 ∙ two.1.0 in
-      let same : one.0 ≡ two.0 = cc in
-      one.1.1 ∙ ap (at_place 0) same ∙ sym two.1.1;
-}
-
-pub spread_once : (places others : List ℕ) (blocks : List Block) → AllByRecursion IsOftenBlock (placed places blocks) →
-    IsSpread (placed places blocks) → IsSpread (placed others blocks) → placed places blocks ≡ placed others blocks
-spread_once places others blocks a one two = spread_alike (placed places blocks) (placed others blocks) a (placed_alike places others blocks) one two
+pub spread_once : (class : Class) (pages : List Authored) (places others : List ℕ) → AreOften pages → IsSpread class pages places →
+    IsSpread class pages others → placed places (blocks_of class pages) ≡ placed others (blocks_of class pages)
+spread_once class pages places others a one two =
+    all_equal (placed places (blocks_of class pages)) (placed others (blocks_of class pages))
+    (blocks_size class places pages ∙ sym (blocks_size class others pages))
+    (λ k x y e f.
+    let within : k < length pages = subst (λ n. k < n) (blocks_size class places pages)
+    (slice_get_within (placed places (blocks_of class pages)) k x e) in
+    let p = listed_at pages k within in
+    let first : Some x ≡ Some (at_place (get_or places k 0) (block_at class p.0)) = sym e ∙ page_block class places pages k p.0 p.1 in
+    let second : Some y ≡ Some (at_place (get_or others k 0) (block_at class p.0)) = sym f ∙ page_block class others pages k p.0 p.1 in
+    let x_is : x ≡ at_place (get_or places k 0) (block_at class p.0) = cc in
+    let y_is : y ≡ at_place (get_or others k 0) (block_at class p.0) = cc in
+    x_is ∙ ap (λ n. at_place n (block_at class p.0)) (places_once class pages places others a one two k p.0 p.1) ∙ sym y_is)

@@ -7,6 +7,8 @@ use Rattle.std.proofs.lemmas.Bool.{cond-true, cond-false, cases_order, eq-eqb, n
 use Rattle.std.proofs.lemmas.List.{take_all, get_or-replicate}
 use Rattle.std.proofs.lemmas.List.Sums.{sum_by-cons, sum_by-append}
 use Rattle.std.proofs.lemmas.Option.{slice_get_within}
+use Rattle.ttx_page.specs.declared.class.Class.{Class}
+use Rattle.ttx_source.specs.Services.{Authored}
 use Rattle.ttx_plan.specs.Blocks.{Block, round_of, packets_in}
 use Rattle.ttx_plan.specs.Ranges.{IsOften}
 use Rattle.ttx_plan.specs.Spread.{earlier, packets_so_far, IsSpread}
@@ -184,19 +186,23 @@ often_of [] k block a e = let f : None ≡ Some block = e in cc
 often_of (b ∷ blocks) zero block a e = let f : Some b ≡ Some block = e in let g : b ≡ block = cc in subst IsOftenBlock g a.0
 often_of (b ∷ blocks) (suc k) block a e = often_of blocks k block a.1 e
 
-pub spread_pass : (blocks : List Block) (often n : ℕ) → IsOften often → AllByRecursion IsOftenBlock blocks → length blocks ≡ n →
-    IsSpreadTo blocks often n → IsSpreadTo blocks (often / 2) 0
-spread_pass blocks often n o a size spread = record {
-  more = λ at block e lt. elim (cases_order often block.often) [
-    | inl same ↦ spread.same at block e (sym same) (subst (λ m. at < m) size (slice_get_within blocks at block e))
+-- each page is sent 1, 2, 4 or 8 times
+abbrev pub AreOften : List Authored → Type 0
+AreOften pages = (k : ℕ) (p : Authored) → slice_get pages k ≡ Some p → IsOften p.often
+
+pub spread_pass : (class : Class) (pages : List Authored) (places : List ℕ) (often n : ℕ) → IsOften often → AreOften pages → length pages ≡ n →
+    IsSpreadTo class pages places often n → IsSpreadTo class pages places (often / 2) 0
+spread_pass class pages places often n o a size spread = record {
+  more = λ at p e lt. elim (cases_order often p.often) [
+    | inl same ↦ spread.same at p e (sym same) (subst (λ m. at < m) size (slice_get_within pages at p e))
     | inr apart ↦ elim apart [
-      | inl more ↦ spread.more at block e more
+      | inl more ↦ spread.more at p e more
       | inr less ↦
-          let half : block.often ≤ often / 2 = at_most_half often block.often o (often_of blocks at block a e) less in
+          let half : p.often ≤ often / 2 = at_most_half often p.often o (a at p e) less in
           absurd (omega (arith, half, lt))
     ]
   ];
-  same = λ at block e often lt. absurd (omega (arith, lt));
+  same = λ at p e often lt. absurd (omega (arith, lt));
 }
 
 -- the beginning and the end
@@ -216,12 +222,12 @@ counted_start blocks a = record {
       ∙ ap (λ xs. packets_in (round_of (xs ++ []) round)) (sym (none_more blocks a));
 }
 
-pub spread_start : (blocks : List Block) → AllByRecursion IsOftenBlock blocks → IsSpreadTo blocks 8 0
-spread_start blocks a = record {
-  more = λ at block e lt. let o : IsOften block.often = often_of blocks at block a e in absurd (omega (arith, lt, o.most));
-  same = λ at block e often lt. absurd (omega (arith, lt));
+pub spread_start : (class : Class) (pages : List Authored) (places : List ℕ) → AreOften pages → IsSpreadTo class pages places 8 0
+spread_start class pages places a = record {
+  more = λ at p e lt. let o : IsOften p.often = a at p e in absurd (omega (arith, lt, o.most));
+  same = λ at p e often lt. absurd (omega (arith, lt));
 }
 
-pub spread_end : (blocks : List Block) → AllByRecursion IsOftenBlock blocks → IsSpreadTo blocks 0 0 → IsSpread blocks
-spread_end blocks a spread = λ at block e. let o : IsOften block.often = often_of blocks at block a e in
-    spread.more at block e (omega (arith, o.some))
+pub spread_end : (class : Class) (pages : List Authored) (places : List ℕ) → AreOften pages → IsSpreadTo class pages places 0 0 →
+    IsSpread class pages places
+spread_end class pages places a spread = λ at p e. let o : IsOften p.often = a at p e in spread.more at p e (omega (arith, o.some))

@@ -1,15 +1,19 @@
 -- Blocks that take their places one after another: what each place changes, and what it does not change.
-use Rattle.std.proofs.Common.{◌≡◌, ◌⊎◌, ℕ, zero, suc, ◌+◌, ◌/◌, ◌%◌, ◌<◌, ◌≤◌, Bool, true, false, cond, eqb, ltb}
+use Rattle.std.proofs.Common.{◌≡◌, ◌⊎◌, ℕ, zero, suc, ◌+◌, ◌/◌, ◌%◌, ◌<◌, ◌≤◌, Bool, true, false, cond, eqb, ltb, ◌&&◌, ◌||◌}
 use Rattle.std.proofs.Common.{List, [], ◌∷◌, ◌++◌, length, set, take}
 use Rattle.std.proofs.Common.{get_or, Some, None, refl, sym, ap, ◌∙◌, subst, arith, inl, inr}
 use Rattle.std.specs.Prelude.{slice_get, filter, sum_by}
 use Rattle.std.proofs.lemmas.Bool.{cond-true, cond-false, cases_eq, eq-eqb, ne_eqb, le-ltb}
-use Rattle.std.proofs.lemmas.List.{append-nil, append_assoc, take-set-le, take_more_set}
+use Rattle.std.proofs.lemmas.List.{append-nil, append_assoc, take_more_set, get_or-set_same, get_or-set_other}
 use Rattle.std.proofs.lemmas.List.Elements.{filter-append, filter_more}
 use Rattle.std.proofs.lemmas.List.Sums.{sum_by-cons, sum_by-append}
 use Rattle.std.proofs.lemmas.Option.{slice_get_within, get_or_from_slice_get}
 use Rattle.ttx_plan.specs.Blocks.{Block, at_place, round_of, packets_in}
-use Rattle.ttx_plan.specs.Spread.{earlier, packets_so_far, IsFirstLeast, IsAtPlace}
+use Rattle.ttx_page.specs.declared.class.Class.{Class}
+use Rattle.ttx_source.specs.Services.{Authored}
+use Rattle.ttx_plan.specs.Spread.{earlier, burden_so_far, IsFirstLeast, IsAtPlace}
+use Rattle.ttx_plan.specs.SubpageTurns.{comes_before}
+use Rattle.ttx_plan.proofs.SpreadBurdens.{AgreeBefore, burden_alike}
 use Rattle.ttx_plan.specs.Spreading.{IsSpreadTo, AreCounted}
 
 -- the tests of the definitions
@@ -66,20 +70,6 @@ filter_take_set test (suc m) (z ∷ xs) (suc n) x y e old new =
 
 -- the blocks before one
 
--- a place does not change the blocks that take theirs before
-earlier_kept : (blocks : List Block) (n place : ℕ) (block : Block) (often at : ℕ) → slice_get blocks n ≡ Some block →
-    ltb often block.often ≡ false → (eqb block.often often ≡ false) ⊎ (at ≤ n) →
-    earlier (set blocks n (at_place place block)) often at ≡ earlier blocks often at
-earlier_kept blocks n place block often at e less same =
-    ap (λ xs. xs ++ filter (is_as often) (take at (set blocks n (at_place place block))))
-    (filter_set (is_more often) blocks n block (at_place place block) e less less)
-    ∙ ap (λ xs. filter (is_more often) blocks ++ xs) (by same)
-  where
-    by : (eqb block.often often ≡ false) ⊎ (at ≤ n) →
-        filter (is_as often) (take at (set blocks n (at_place place block))) ≡ filter (is_as often) (take at blocks)
-    by (inl other) = filter_take_set (is_as often) at blocks n block (at_place place block) e other other
-    by (inr le) = ap (filter (is_as often)) (take-set-le at blocks n (at_place place block) le)
-
 -- a block that takes its place is added to those before
 earlier_more : (blocks : List Block) (n place : ℕ) (block : Block) → slice_get blocks n ≡ Some block →
     earlier (set blocks n (at_place place block)) block.often (n + 1) ≡ earlier blocks block.often n ++ at_place place block ∷ []
@@ -122,7 +112,7 @@ packets_more xs block round =
         let z : sum_by weight [] ≡ 0 = refl in omega (arith, h, z)
     last false = refl
 
-first_least_same : (f g : ℕ → ℕ) (count number : ℕ) → count ≤ 8 → ((round : ℕ) → round < 8 → f round ≡ g round) →
+pub first_least_same : (f g : ℕ → ℕ) (count number : ℕ) → count ≤ 8 → ((round : ℕ) → round < 8 → f round ≡ g round) →
     IsFirstLeast f count number → IsFirstLeast g count number
 first_least_same f g count number few same l =
     let here : f number ≡ g number = same number (omega (arith, l.within)) in
@@ -133,47 +123,77 @@ first_least_same f g count number few same l =
           omega (arith, here, there, l.first other lt);
     }
 
--- a block takes its place
+-- a page takes its place
 
--- the packets of the blocks before one
-abbrev value_in : List Block → ℕ → ℕ
-value_in blocks round = packets_in (round_of blocks round)
+pub first_least_each : (f g : ℕ → ℕ) (count number : ℕ) → ((round : ℕ) → f round ≡ g round) → IsFirstLeast f count number →
+    IsFirstLeast g count number
+first_least_each f g count number same l =
+    let here : f number ≡ g number = same number in
+    record {
+      within = l.within;
+      least = λ other lt. let there : f other ≡ g other = same other in omega (arith, here, there, l.least other lt);
+      first = λ other lt. let there : f other ≡ g other = same other in omega (arith, here, there, l.first other lt);
+    }
 
-abbrev IsFirstIn : List Block → Block → Type 0
-IsFirstIn blocks block = IsFirstLeast (value_in blocks) (8 / block.often) block.place
+-- a place of the page at n does not matter to a page that takes its place before, nor to the page itself
+agree_set : (pages : List Authored) (places : List ℕ) (n place : ℕ) (page : Authored) (at : ℕ) (p : Authored) → slice_get pages n ≡ Some page →
+    comes_before at p n page ≡ false → AgreeBefore pages (set places n place) places at p
+agree_set pages places n place page at p e not_before = λ k q there before. elim (cases_eq k n) [
+  | inl same ↦
+      let is : Some q ≡ Some page = sym there ∙ ap (slice_get pages) same ∙ e in
+      let q_is : q ≡ page = cc in
+      let both : true ≡ false = sym before ∙ ap (λ i. comes_before at p i q) same ∙ ap (comes_before at p n) q_is ∙ not_before in
+      cc
+  | inr apart ↦ get_or-set_other places n k place 0 apart
+]
 
-pub spread_more : (packets : List ℕ) (blocks : List Block) (n place : ℕ) (block : Block) → slice_get blocks n ≡ Some block →
-    8 / block.often ≤ 8 → IsFirstLeast (λ round. get_or packets round 0) (8 / block.often) place →
-    AreCounted packets blocks block.often n → IsSpreadTo blocks block.often n → IsSpreadTo (set blocks n (at_place place block)) block.often (n + 1)
-spread_more packets blocks n place block e few least counted spread = record {
-  more = λ at other there lt. elim (cases_eq at n) [
+not_before : (a b c : Bool) → a ≡ false → (b ≡ false) ⊎ (c ≡ false) → (a || (b && c)) ≡ false
+not_before true b c e h = cc
+not_before false true c e (inl f) = cc
+not_before false true c e (inr f) = f
+not_before false false c e h = refl
+
+kept_place : (class : Class) (pages : List Authored) (places : List ℕ) (n place : ℕ) (page : Authored) (at : ℕ) (p : Authored) →
+    slice_get pages n ≡ Some page → slice_get pages at ≡ Some p → (at ≡ n → ⊥) → comes_before at p n page ≡ false →
+    IsAtPlace class pages places at p → IsAtPlace class pages (set places n place) at p
+kept_place class pages places n place page at p e there apart before spread =
+    subst (IsFirstLeast (burden_so_far class pages (set places n place) at p) (8 / p.often)) (sym (get_or-set_other places n at place 0 apart))
+    (first_least_each (burden_so_far class pages places at p) (burden_so_far class pages (set places n place) at p) (8 / p.often) (get_or places at 0)
+    (λ round. sym (burden_alike class pages (set places n place) places at p round there (agree_set pages places n place page at p e before)))
+    spread)
+
+pub spread_more : (class : Class) (pages : List Authored) (places : List ℕ) (n place : ℕ) (page : Authored) → n < length places →
+    slice_get pages n ≡ Some page → IsFirstLeast (burden_so_far class pages places n page) (8 / page.often) place →
+    IsSpreadTo class pages places page.often n → IsSpreadTo class pages (set places n place) page.often (n + 1)
+spread_more class pages places n place page within e least spread = record {
+  more = λ at p there lt.
+      let apart : at ≡ n → ⊥ = λ same.
+      let is : Some p ≡ Some page = sym there ∙ ap (slice_get pages) same ∙ e in
+      let p_is : p ≡ page = cc in
+      absurd (omega (arith, lt, ap (λ (x : Authored). x.often) p_is)) in
+      kept_place class pages places n place page at p e there apart
+      (not_before (ltb p.often page.often) (eqb page.often p.often) (ltb n at) (le-ltb p.often page.often (omega (arith, lt)))
+      (inl (ne_eqb page.often p.often (λ (eq : page.often ≡ p.often). omega (arith, lt, eq)))))
+      (spread.more at p there lt);
+  same = λ at p there often lt. elim (cases_eq at n) [
     | inl same ↦
-        let new : other ≡ at_place place block = get_set blocks n other (at_place place block)
-        (ap (slice_get (set blocks n (at_place place block))) (sym same) ∙ there) in
-        absurd (omega (arith, lt, ap (λ (b : Block). b.often) new))
+        let is : Some page ≡ Some p = sym e ∙ ap (slice_get pages) (sym same) ∙ there in
+        let p_is : page ≡ p = cc in
+        let before : comes_before n page n page ≡ false =
+        not_before (ltb page.often page.often) (eqb page.often page.often) (ltb n n) (le-ltb page.often page.often (omega arith))
+        (inr (le-ltb n n (omega arith))) in
+        let here : IsAtPlace class pages (set places n place) n page =
+        subst (IsFirstLeast (burden_so_far class pages (set places n place) n page) (8 / page.often)) (sym (get_or-set_same places n place 0 within))
+        (first_least_each (burden_so_far class pages places n page) (burden_so_far class pages (set places n place) n page) (8 / page.often) place
+        (λ round. sym (burden_alike class pages (set places n place) places n page round e (agree_set pages places n place page n page e before)))
+        least) in
+        subst (λ k. IsAtPlace class pages (set places n place) k p) (sym same) (subst (IsAtPlace class pages (set places n place) n) p_is here)
     | inr apart ↦
-        let old : slice_get blocks at ≡ Some other = sym (get_other blocks n at (at_place place block) apart) ∙ there in
-        let kept = earlier_kept blocks n place block other.often at e (le-ltb other.often block.often (omega (arith, lt)))
-        (inl (ne_eqb block.often other.often (λ (eq : block.often ≡ other.often). omega (arith, lt, eq)))) in
-        subst (λ xs. IsFirstIn xs other) (sym kept) (spread.more at other old lt)
-  ];
-  same = λ at other there often lt. elim (cases_eq at n) [
-    | inl same ↦
-        let new : other ≡ at_place place block = get_set blocks n other (at_place place block)
-        (ap (slice_get (set blocks n (at_place place block))) (sym same) ∙ there) in
-        let kept = earlier_kept blocks n place block block.often n e (le-ltb block.often block.often (omega arith)) (inr (omega arith)) in
-        let here : IsFirstLeast (packets_so_far blocks block.often n) (8 / block.often) place =
-        first_least_same (λ round. get_or packets round 0) (packets_so_far blocks block.often n) (8 / block.often) place few counted.each least in
-        let placed_here : IsFirstIn (earlier (set blocks n (at_place place block)) block.often n) (at_place place block) =
-        subst (λ xs. IsFirstIn xs (at_place place block)) (sym kept) here in
-        subst (λ k. IsAtPlace (set blocks n (at_place place block)) k other) (sym same)
-        (subst (IsAtPlace (set blocks n (at_place place block)) n) (sym new) placed_here)
-    | inr apart ↦
-        let old : slice_get blocks at ≡ Some other = sym (get_other blocks n at (at_place place block) apart) ∙ there in
         let before : at < n = omega (arith, lt, apart) in
-        let kept = earlier_kept blocks n place block other.often at e (le-ltb other.often block.often (omega (arith, often)))
-        (inr (omega (arith, before))) in
-        subst (λ xs. IsFirstIn xs other) (sym kept) (spread.same at other old often before)
+        kept_place class pages places n place page at p e there apart
+        (not_before (ltb p.often page.often) (eqb page.often p.often) (ltb n at) (le-ltb p.often page.often (omega (arith, often)))
+        (inr (le-ltb n at (omega (arith, before)))))
+        (spread.same at p there often before)
   ];
 }
 
@@ -190,15 +210,18 @@ counted_more packets after blocks n place block e eight added counted = record {
       ∙ ap (λ xs. packets_in (round_of xs round)) (sym (earlier_more blocks n place block e));
 }
 
--- a block is skipped that is sent more often or less often
+-- a page is skipped that is sent more often or less often
 
-pub spread_else : (blocks : List Block) (n : ℕ) (block : Block) (often : ℕ) → slice_get blocks n ≡ Some block → (block.often ≡ often → ⊥) →
-    IsSpreadTo blocks often n → IsSpreadTo blocks often (n + 1)
-spread_else blocks n block often e other spread = record {
+pub spread_else : (class : Class) (pages : List Authored) (places : List ℕ) (n : ℕ) (page : Authored) (often : ℕ) → slice_get pages n ≡ Some page →
+    (page.often ≡ often → ⊥) → IsSpreadTo class pages places often n → IsSpreadTo class pages places often (n + 1)
+spread_else class pages places n page often e other spread = record {
   more = spread.more;
-  same = λ at b there same lt. elim (cases_eq at n) [
-    | inl here ↦ absurd (other (ap (λ (x : Block). x.often) (one block b (sym e ∙ ap (slice_get blocks) (sym here) ∙ there)) ∙ same))
-    | inr apart ↦ spread.same at b there same (omega (arith, lt, apart))
+  same = λ at p there same lt. elim (cases_eq at n) [
+    | inl here ↦
+        let is : Some page ≡ Some p = sym e ∙ ap (slice_get pages) (sym here) ∙ there in
+        let p_is : page ≡ p = cc in
+        absurd (other (ap (λ (x : Authored). x.often) p_is ∙ same))
+    | inr apart ↦ spread.same at p there same (omega (arith, lt, apart))
   ];
 }
 

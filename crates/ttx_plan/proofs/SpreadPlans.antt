@@ -6,18 +6,18 @@ use Rattle.ttx_cycle.specs.Cycles.{slots_of}
 use Rattle.ttx_page.specs.declared.class.Class.{Class}
 use Rattle.ttx_source.specs.Services.{ServiceFields, IsService}
 use Rattle.ttx_plan.specs.declared.faults.PlanFault.TheVariants.{TooLong}
-use Rattle.ttx_plan.specs.Blocks.{placed, sent_blocks, length_bound}
-use Rattle.ttx_plan.specs.Carries.{CarriesAt, blocks_of, blocks_sent_at}
+use Rattle.ttx_plan.specs.Blocks.{sent_blocks, length_bound}
+use Rattle.ttx_plan.specs.Carries.{CarriesAt, blocks_sent_at}
 use Rattle.ttx_plan.specs.Spread.{IsSpread, IsSpreadPlan, IsTooLongSpread}
 use Rattle.ttx_plan.proofs.PlanFaults.{Answer, ok_is_other}
 use Rattle.ttx_plan.proofs.SpreadOnce.{spread_once}
-use Rattle.ttx_plan.proofs.SpreadPages.{blocks_often}
+use Rattle.ttx_plan.proofs.PlacedPages.{each_often}
 
 abbrev IsLong : List ℕ → Bool → Class → ServiceFields → Type 0
 IsLong places late class service = 65536 < length_bound service.lines (blocks_sent_at places late class service.pages)
 
 pub spread_carried : (places : List ℕ) (late : Bool) (class : Class) (service : ServiceFields) (answer : Answer) →
-    IsSpread (placed places (blocks_of class service.pages)) → IfOk answer (λ cycle. CarriesAt places late class service (slots_of cycle)) →
+    IsSpread class service.pages places → IfOk answer (λ cycle. CarriesAt places late class service (slots_of cycle)) →
     (answer ≡ Err TooLong) ↔ IsLong places late class service → IfOk answer (λ cycle. IsSpreadPlan late class service (slots_of cycle))
 spread_carried places late class service (Ok cycle) spread carries long = record {
   places = places;
@@ -31,17 +31,16 @@ spread_carried places late class service (Ok cycle) spread carries long = record
 spread_carried places late class service (Err fault) spread carries long = tt
 
 pub exactly_too_long : (places : List ℕ) (late : Bool) (class : Class) (service : ServiceFields) → IsService service →
-    IsSpread (placed places (blocks_of class service.pages)) → IsLong places late class service ↔ IsTooLongSpread late class service
+    IsSpread class service.pages places → IsLong places late class service ↔ IsTooLongSpread late class service
 exactly_too_long places late class service is spread = (
   λ long. record { places = places; spread = spread; long = long },
   λ other. subst (λ blocks. 65536 < length_bound service.lines (sent_blocks late blocks))
-      (spread_once other.places places (blocks_of class service.pages)
-      (blocks_often class service.serial other.places service.pages is.pages) other.spread spread)
+      (spread_once class service.pages other.places places (each_often service.serial service.pages is.pages) other.spread spread)
       other.long,
 )
 
 pub spread_too_long : (places : List ℕ) (late : Bool) (class : Class) (service : ServiceFields) (answer : Answer) → IsService service →
-    IsSpread (placed places (blocks_of class service.pages)) → (answer ≡ Err TooLong) ↔ IsLong places late class service →
+    IsSpread class service.pages places → (answer ≡ Err TooLong) ↔ IsLong places late class service →
     (answer ≡ Err TooLong) ↔ IsTooLongSpread late class service
 spread_too_long places late class service answer is spread long =
     let exact = exactly_too_long places late class service is spread in

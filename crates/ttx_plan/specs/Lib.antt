@@ -10,6 +10,7 @@ pub mod Packets
 pub mod Ranges
 pub mod Seen
 pub mod Serial
+pub mod SubpageTurns
 pub mod Spread
 pub mod Spreading
 pub mod Turns

@@ -20,6 +20,7 @@ mod rounds;
 mod serial;
 mod slots;
 mod spread;
+mod subpage_turns;
 pub mod whole_blocks;
 
 pub use asked::Receivers;

@@ -1,4 +1,4 @@
-//! Places of pages among the rounds that make the rounds similar in length.
+//! Places of pages among the rounds that make the rounds similar in length, and keep the pages of one page number apart.
 
 ghost use Rattle.std.specs.Prelude.{◌≡◌, ℕ, ◌+◌, ◌/◌, ◌%◌, ◌^◌, ◌<◌, ◌≤◌, ◌==◌, if◌then◌else◌, length, slice_index};
 ghost use Rattle.ttx_plan.specs.Blocks.{placed};
@@ -9,19 +9,20 @@ ghost use Rattle.ttx_plan.specs.Spreading.{AreCounted, IsSpreadTo};
 
 use crate::block::block_length;
 use crate::bounds::times;
+use crate::subpage_turns::{burdens, count_numbers};
 use ttx_page::Class;
 use ttx_source::Service;
 
-// The first of the first `count` rounds with the fewest packets.
-fn first_least(packets: &[usize], count: usize) -> usize
+// The first of the first `count` places with the least burden.
+fn first_least(burdens: &[usize], count: usize) -> usize
     requires some { 1 ≤ count }
-    requires few { count ≤ length packets.now }
-    ensures { IsFirstLeast (λ round. slice_index packets.now round) count result }
+    requires few { count ≤ length burdens.now }
+    ensures { IsFirstLeast (λ place. slice_index burdens.now place) count result }
 {
     let mut least = 0;
-    for round in 1..count {
-        if packets[round] < packets[least] {
-            least = round;
+    for place in 1..count {
+        if burdens[place] < burdens[least] {
+            least = place;
         }
     }
     least
@@ -53,16 +54,20 @@ fn place_pages(
     requires often { IsOften often }
     requires enough { length service.now.pages ≤ length places.old }
     requires room { (round : ℕ) → slice_index packets.old round ≤ 2 ^ 31 }
-    requires spread { IsSpreadTo (placed places.old (blocks_of class service.now.pages)) often 0 }
+    requires small { (at : ℕ) → slice_index places.old at < 8 }
+    requires spread { IsSpreadTo class service.now.pages places.old often 0 }
     requires counted { AreCounted packets.old (placed places.old (blocks_of class service.now.pages)) often 0 }
-    ensures spread { IsSpreadTo (placed places.new (blocks_of class service.now.pages)) often (length service.now.pages) }
+    ensures small { (at : ℕ) → slice_index places.new at < 8 }
+    ensures spread { IsSpreadTo class service.now.pages places.new often (length service.now.pages) }
     ensures counted { AreCounted packets.new (placed places.new (blocks_of class service.now.pages)) often (length service.now.pages) }
     ensures room { (round : ℕ) → slice_index packets.new round ≤ slice_index packets.old round + 52000 }
 {
     let pages = service.pages();
+    let numbers = count_numbers(service);
     for index in 0..pages.len() {
         if times(service, index) == often {
-            let place = first_least(&*packets, 8 / often);
+            let burdens = burdens(service, &numbers, &*places, &*packets, index);
+            let place = first_least(&burdens, 8 / often);
             places[index] = place;
             add_packets(
                 packets,
@@ -76,17 +81,20 @@ fn place_pages(
 
 // Place 0 for each page that a service may have.
 fn no_places() -> [usize; 2000]
-    ensures { length result ≡ 2000 }
+    ensures length { length result ≡ 2000 }
+    ensures zero { (at : ℕ) → slice_index result at ≡ 0 }
 {
     [0; 2000]
 }
 
 /// The place of each page of the service among the eight rounds, by its index, for receivers of the class. These places make the rounds
-/// similar in length. Pages take their places one after another, those that are sent most often first, and equal ones in authored order.
-/// Each takes the first place whose rounds have the fewest packets so far. The packets of a page are its page header, the rows that are
-/// sent and X/27/0. Allocates no memory.
+/// similar in length, and keep the pages of one page number apart. Pages take their places one after another, those that are sent most
+/// often first, and equal ones in authored order. Each takes the first place with the least burden: first the pages of its number that
+/// stand in the rounds of the place already, then how many rounds the place comes after the turn of the page, then the packets of these
+/// rounds. Pages of a number that are sent equally often have their turns at equal distances, in the order of their subcodes. The packets
+/// of a page are its page header, the rows that are sent and X/27/0. Allocates no memory.
 pub fn spread_places(service: &Service, class: Class) -> [usize; 2000]
-    ensures spread { IsSpread (placed result (blocks_of class service.now.pages)) }
+    ensures spread { IsSpread class service.now.pages result }
     ensures places { ArePlaces result service.now.pages }
 {
     let _pages = service.pages();

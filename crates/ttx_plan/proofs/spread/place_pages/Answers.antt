@@ -1,4 +1,4 @@
-use Rattle.std.proofs.Common.{◌<◌, ◌+◌, get_or, length, ap, sym, subst, arith, ◌∙◌}
+use Rattle.std.proofs.Common.{ℕ, ◌<◌, ◌+◌, get_or, length, ap, sym, subst, arith, ◌∙◌}
 use Rattle.std.specs.Prelude.{slice_get}
 use Rattle.ttx_page.specs.Views.{page_of}
 use Rattle.ttx_source.specs.Services.{authored_at}
@@ -6,7 +6,8 @@ use Rattle.ttx_plan.specs.Blocks.{placed}
 use Rattle.ttx_plan.specs.Carries.{blocks_of}
 use Rattle.ttx_plan.specs.Spreading.{AreCounted, IsSpreadTo}
 use Rattle.ttx_plan.proofs.ServicePages.{get_there, page_at_index}
-use Rattle.ttx_plan.proofs.SpreadPages.{listed_page, page_spread, page_counted, page_passed, added_most}
+use Rattle.ttx_plan.proofs.SpreadPages.{listed_page, page_spread, page_counted, page_passed, added_most, small_set}
+use Rattle.ttx_plan.proofs.SpreadPasses.{period_range}
 use Rattle.ttx_plan.proofs.spread.place_pages.Goals as goal
 use Rattle.ttx_plan.proofs.spread.place_pages.Goals.{then-times-often, else-times-often}
 
@@ -26,11 +27,14 @@ loop-index-preserved c =
           let authored = authored_at (page_of w.index-pages-index.result) c.times.result in
           record {
             enough = omega (arith, c.loop-index.invariant.enough, c.if-times-often.auto.places);
-            spread = subst (λ x. IsSpreadTo (placed x (blocks_of c.args.class c.args.service.now.pages)) c.args.often (c.loop-index.index + 1))
+            small = subst (λ xs. (at : ℕ) → get_or xs at 0 < 8) (sym w.places-is)
+                (λ at. small_set c.loop-index.places c.loop-index.index w.first_least-place.result at was.small
+                (omega (arith, w.first_least-place.ensures.within, (period_range c.args.often c.requires.often).1)));
+            spread = subst (λ x. IsSpreadTo c.args.class c.args.service.now.pages x c.args.often (c.loop-index.index + 1))
                 (sym w.places-is)
                 (page_spread c.args.class c.loop-index.places c.args.service.now.pages c.loop-index.index c.args.often w.first_least-place.result
-                c.loop-index.packets (authored_at (page_of w.index-pages-index.result) c.times.result) here page w.if-times-often.true
-                c.requires.often w.first_least-place.ensures was.counted was.spread);
+                w.burdens-burdens.result c.loop-index.packets (authored_at (page_of w.index-pages-index.result) c.times.result) here page
+                w.if-times-often.true c.requires.often w.first_least-place.ensures (w.burdens-burdens.ensures.value _ page) was.counted was.spread);
             counted = subst (λ x. AreCounted x (placed c.if-times-often.places (blocks_of c.args.class c.args.service.now.pages)) c.args.often
                 (c.loop-index.index + 1))
                 (sym w.packets-is)
@@ -55,7 +59,8 @@ loop-index-preserved c =
           listed.0 listed.1.0 (λ e. w.if-times-often.false (sym listed.1.1 ∙ e)) was.spread was.counted in
           record {
             enough = omega (arith, c.loop-index.invariant.enough, c.if-times-often.auto.places);
-            spread = subst (λ x. IsSpreadTo (placed x (blocks_of c.args.class c.args.service.now.pages)) c.args.often (c.loop-index.index + 1))
+            small = subst (λ xs. (at : ℕ) → get_or xs at 0 < 8) (sym w.places-is) was.small;
+            spread = subst (λ x. IsSpreadTo c.args.class c.args.service.now.pages x c.args.often (c.loop-index.index + 1))
                 (sym w.places-is) passed.0;
             counted = subst (λ x. AreCounted x (placed c.if-times-often.places (blocks_of c.args.class c.args.service.now.pages)) c.args.often
                 (c.loop-index.index + 1))
@@ -69,3 +74,13 @@ loop-index-preserved c =
                 omega (arith, before, after);
           }
     ]
+
+pub burdens-burdens-requires-clause-packets : goal.burdens-burdens-requires-clause-packets
+burdens-burdens-requires-clause-packets c = (
+  c.loop-index.invariant.counted.eight,
+  λ round.
+      let now = c.loop-index.invariant.room round in
+      let before = c.requires.room round in
+      let few = c.pages-pages.ensures.ranges.count in
+      omega (arith, now, before, few, c.pages-pages.ensures.count, c.loop-index-test.true),
+)
