@@ -46,4 +46,5 @@ mod SpreadPasses
 mod SpreadPages
 mod SpreadOnce
 mod SpreadPlans
+mod PickedBlocks
 mod WholeBlocks

@@ -22,7 +22,7 @@ passed_next before (b ∷ blocks) block = passed_next (b ∷ before) blocks bloc
 abbrev pub is_again : List Block → Block → Bool
 is_again blocks block = eqb (latest block.queue (passed [] blocks)) block.page
 
-fillers_next : (late : Bool) (before blocks : List Block) (block : Block) → with_fillers late before (blocks ++ block ∷ [])
+pub fillers_next : (late : Bool) (before blocks : List Block) (block : Block) → with_fillers late before (blocks ++ block ∷ [])
     ≡ with_fillers late before blocks ++ led (late && eqb (latest block.queue (passed before blocks)) block.page) block ∷ []
 fillers_next late before [] block = refl
 fillers_next late before (b ∷ blocks) block = ap (λ z. led (late && eqb (latest b.queue before) b.page) b ∷ z)

@@ -6,6 +6,7 @@ pub mod Counting
 pub mod Cursors
 pub mod Following
 pub mod Laws
+pub mod Order
 pub mod Packets
 pub mod Ranges
 pub mod Seen

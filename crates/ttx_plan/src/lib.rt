@@ -12,6 +12,7 @@ mod faults;
 mod fillers;
 pub mod following;
 pub mod laws;
+mod order;
 mod packet;
 mod parallel;
 mod planning;
@@ -25,5 +26,6 @@ pub mod whole_blocks;
 
 pub use asked::Receivers;
 pub use faults::PlanFault;
+pub use order::plan_in_order;
 pub use planning::{is_too_long_spread, plan, plan_at, plan_for, plan_spread, plan_with};
 pub use spread::spread_places;
