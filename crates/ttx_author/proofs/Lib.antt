@@ -3,6 +3,7 @@ pub mod Steps
 pub mod Modes
 pub mod Codes
 pub mod Written
+pub mod Ranges
 pub mod OwnCells
 pub mod Seen
 pub mod Standing

@@ -12,5 +12,5 @@ mod texts;
 
 pub use options::NationalOption;
 pub use remedies::{nearest_tag, options_with};
-pub use rows::{Lack, Why, head_of, row_of};
+pub use rows::{Lack, Why, codes_of, head_of, row_of};
 pub use texts::text_of;

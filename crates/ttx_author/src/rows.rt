@@ -1,6 +1,6 @@
 //! The codes of an author's row.
 
-ghost use Rattle.std.specs.Prelude.{◌≡◌, ◌<◌, ◌≤◌, ◌-◌, [], ◌∷◌, ◌++◌, false, length, replicate, List, Ok, Err, IfOk, OnOk, MatchResult};
+ghost use Rattle.std.specs.Prelude.{◌≡◌, ◌<◌, ◌≤◌, ◌-◌, [], ◌∷◌, ◌++◌, false, length, replicate, slice_index, ℕ, List, Ok, Err, IfOk, OnOk, MatchResult};
 ghost use Rattle.arrayvec.specs.ArrayVec.{array_vec_len};
 ghost use Rattle.ttx_author.specs.Marks.{Placed, placed, marks_of};
 ghost use Rattle.ttx_author.specs.Options.{option_number};
@@ -170,6 +170,21 @@ fn filled<const N: usize>(codes: &[u8]) -> [u8; N]
     let mut cells = [b' '; N];
     cells[..codes.len()].copy_from_slice(codes);
     cells
+}
+
+/// The codes of a text in `width` cells, without spaces behind them; or the first mark that has no code.
+pub fn codes_of(
+    text: &[char],
+    option: NationalOption,
+    width: usize,
+) -> Result<ArrayVec<u8, 40>, Lack>
+    requires { width ≤ 40 }
+    ensures code { MatchResult result
+        (λ codes. codes_of (option_number option) false width (marks_of text.now) ≡ Ok codes.items)
+        (λ lack. codes_of (option_number option) false width (marks_of text.now) ≡ Err lack) }
+    ensures range { IfOk result (λ codes. (c : ℕ) → slice_index codes.items c < 128) }
+{
+    Ok(line_of(text, option.number(), width)?.codes)
 }
 
 /// The 40 codes of a row, filled with spaces; or the first mark that has no code.
