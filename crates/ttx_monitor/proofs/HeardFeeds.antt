@@ -8,13 +8,14 @@ use Rattle.std.proofs.lemmas.List.{drop_more, take-append-drop}
 use Rattle.ttx_packet.specs.Slots.{IsSlot}
 use Rattle.ttx_cycle.specs.Files.{file_of}
 use Rattle.ttx_monitor.specs.Watching.{Watched}
-use Rattle.ttx_monitor.specs.Feeds.{IsRead, IsBrokenBy, HearsHead, HearsOn, IsBroken, HearsAll}
+use Rattle.ttx_files.specs.Feeds.{IsRead}
+use Rattle.ttx_monitor.specs.Feeds.{IsBrokenBy, HearsHead, HearsOn, IsBroken, HearsAll}
 use Rattle.ttx_monitor.specs.FeedVerdicts.{IsFirstPeriod, StartsAt, BeginsAt}
 use Rattle.ttx_monitor.specs.declared.breach.Breach.{Breach}
 use Rattle.ttx_monitor.specs.declared.hearing.Heard.{Heard}
 use Rattle.ttx_monitor.specs.declared.hearing.Heard.TheVariants.{End, Broken}
 use Rattle.ttx_monitor.specs.declared.monitor.Monitor.{Monitor}
-use Rattle.ttx_monitor.specs.declared.verdict.FeedFault.{FeedFault}
+use Rattle.ttx_files.specs.declared.faults.FeedFault.{FeedFault}
 
 pub file_more : (xs : List (List ℕ)) (z : List ℕ) → file_of xs ++ z ≡ file_of (xs ++ z ∷ [])
 file_more xs z = sym (flat_map-append (λ slot. slot) xs (z ∷ []) ∙ ap (λ l. file_of xs ++ l) (append-nil z))
@@ -45,7 +46,7 @@ first_period cycle old new slots (Some rest) each read = left _ old read.2.0 (fi
   rest = ys;
   same = refl;
   each = each;
-  few = read.0;
+  few = let few = read.0 in omega arith;
   whole = inr (let size = known _ read.2.0 ys e read.2.2 in let few = read.1 in omega arith);
 })
 

@@ -1,47 +1,19 @@
 -- A feed that is read slot by slot and heard until it ends or breaks the error rule (profile).
 --
---   AnswersSlot             the next slot, or the end of the feed, with the bytes left before and after
---   CountsFeed              a fault of reading is answered only if a read failed
---   IsRead, IsReadHead      the first slots of a feed, and how many bytes follow them if it ends there
 --   IsBrokenBy              after slots within the rule, this slot breaks it
 --   HearsHead, HearsOn      what a monitor makes of some slots; of the rest of a feed
 --   HearsAll                what it makes of a feed of these bytes
-use Rattle.std.specs.Prelude.{◌≡◌, ◌⊎◌, ℕ, ◌-◌, ◌^◌, ◌<◌, ◌≤◌, List, [], ◌∷◌, ◌++◌, length, take, slice_index_or, ⊤, Option, Some, None, IfSome, Result, Ok, Err}
+use Rattle.std.specs.Prelude.{◌≡◌, ◌⊎◌, ℕ, ◌-◌, ◌^◌, ◌<◌, ◌≤◌, List, [], ◌∷◌, ◌++◌, length, take, slice_index_or, Option, Some, None, IfSome}
 use Rattle.std.specs.Io.KnownBytes.{Consumes}
 use Rattle.ttx_packet.specs.Slots.{IsSlot}
-use Rattle.ttx_cycle.specs.Counts.{HasRisen}
 use Rattle.ttx_cycle.specs.Files.{file_of}
 use Rattle.ttx_monitor.specs.Watching.{Watched, IsWithin}
 use Rattle.ttx_monitor.specs.Breaches.{IsHeard}
 use Rattle.ttx_monitor.specs.Standing.{Stands}
 use Rattle.ttx_monitor.specs.declared.breach.Breach.{Breach}
-use Rattle.ttx_monitor.specs.declared.feed.Head.{Head}
-use Rattle.ttx_monitor.specs.declared.feed.Next.{Next}
-use Rattle.ttx_monitor.specs.declared.feed.Next.TheVariants as next
 use Rattle.ttx_monitor.specs.declared.hearing.Heard.{Heard}
 use Rattle.ttx_monitor.specs.declared.hearing.Heard.TheVariants.{End, Broken}
 use Rattle.ttx_monitor.specs.declared.monitor.Monitor.{Monitor}
-use Rattle.ttx_monitor.specs.declared.verdict.FeedFault.{FeedFault}
-use Rattle.ttx_monitor.specs.declared.verdict.FeedFault.TheVariants.{Read, NoMemory}
-
-abbrev pub AnswersSlot : Option (List ℕ) → Option (List ℕ) → List ℕ → Result Next FeedFault → Type 0
-AnswersSlot old new slot (Ok next.Slot) = Consumes old new slot × IsSlot slot
-AnswersSlot old new slot (Ok (next.End rest)) = (rest < 42) × IfSome old (λ bytes. length bytes ≡ rest)
-AnswersSlot old new slot (Err fault) = ⊤
-
-abbrev pub CountsFeed : {T : Type 0} → Result T FeedFault → ℕ → ℕ → Type 0
-CountsFeed (Ok _) old new = new ≡ old
-CountsFeed (Err Read) old new = HasRisen old new
-CountsFeed (Err NoMemory) old new = new ≡ old
-
--- with the bytes left before and after
-abbrev pub IsRead : ℕ → Option (List ℕ) → Option (List ℕ) → List (List ℕ) → Option ℕ → Type 0
-IsRead most old new slots None = Consumes old new (file_of slots) × (length slots ≡ most)
-IsRead most old new slots (Some rest) =
-    (length slots ≤ most) × (rest < 42) × ((mid : Option (List ℕ)) × Consumes old mid (file_of slots) × IfSome mid (λ bytes. length bytes ≡ rest))
-
-abbrev pub IsReadHead : ℕ → Option (List ℕ) → Option (List ℕ) → Head → Type 0
-IsReadHead most old new head = IsRead most old new head.slots.items head.end
 
 pub record IsBrokenBy (w : Watched) (feed : List (List ℕ)) (slot : List ℕ) (m : Monitor) (breach : Breach) : Type 0 where
   pub within : IsWithin w feed

@@ -1,6 +1,6 @@
 //! Hears a feed to its end, or to the first slot that breaks the error rule.
 
-ghost use Rattle.std.specs.Prelude.{◌≡◌, ◌≤◌, [], ℕ, List, Option, IfOk, IfSome, length};
+ghost use Rattle.std.specs.Prelude.{◌≡◌, ◌≤◌, ◌∷◌, [], ℕ, List, Option, IfOk, IfSome, length};
 ghost use Rattle.std.specs.List.{All};
 ghost use Rattle.ttx_packet.specs.Slots.{IsSlot};
 ghost use Rattle.ttx_page.specs.Pages.{Page};
@@ -13,19 +13,21 @@ ghost use Rattle.ttx_witness.specs.Certificates.{certificate_of};
 ghost use Rattle.ttx_witness.specs.Coverage as coverage;
 ghost use Rattle.ttx_monitor.specs.Watching.{Watched, watched, IsWithin};
 ghost use Rattle.ttx_monitor.specs.Standing.{Stands};
-ghost use Rattle.ttx_monitor.specs.Feeds.{CountsFeed, IsReadHead, HearsHead, HearsOn, HearsAll};
+ghost use Rattle.ttx_files.specs.Devices.{AtFeed, input, IsFirstFailure};
+ghost use Rattle.ttx_files.specs.Feeds.{IsReadHead, failed_at};
+ghost use Rattle.ttx_monitor.specs.Feeds.{HearsHead, HearsOn, HearsAll};
 ghost use Rattle.ttx_monitor.specs.FeedVerdicts.{start_of, StartsAt, IsVerdictOf, IsFeedVerdict};
 
 use crate::breach::Breach;
-use crate::feed::{Head, Next, next_slot, read_head};
 use crate::monitor::Monitor;
 use crate::starting::find_start;
-use crate::verdict::{FeedFault, FeedVerdict};
+use crate::verdict::FeedVerdict;
 use std::alloc::Global;
 use std::io::Read;
 use ttx_cycle::arrays::are_slots;
 use ttx_cycle::{Counted, Cycle};
-use ttx_files::Inputs;
+use ttx_files::feeds::{Head, Next, next_slot, read_head};
+use ttx_files::{FeedFault, Inputs};
 
 /// How the hearing of a feed ends: at its end, with so many bytes behind the last slot, or at the first breach.
 #[derive(Clone, Copy)]
@@ -55,7 +57,8 @@ fn hear_head(monitor: &mut Monitor<'_>, slots: &[[u8; 42]]) -> Option<Breach>
 fn hear_on<R: Read>(monitor: &mut Monitor<'_>, feed: &mut Counted<R>) -> Result<Heard, FeedFault>
     ensures heard { IfOk result (λ heard. (w : Watched) (slots : List (List ℕ)) → Stands monitor.old w slots → IsWithin w slots →
         HearsOn w slots (R.remaining (inner_of feed.old)) (R.remaining (inner_of feed.new)) monitor.new heard) }
-    ensures faults { CountsFeed result (faults_of feed.old) (faults_of feed.new) }
+    ensures faults { IsFirstFailure (input AtFeed (R.remaining (inner_of feed.old)) (faults_of feed.old) (faults_of feed.new) ∷ [])
+        (failed_at result) }
 {
     let mut slot = [0; 42];
     for count in 0..u64::MAX {
@@ -80,7 +83,8 @@ fn hear_all<R: Read>(
     ensures heard { IfOk result (λ heard. (w : Watched) (most : ℕ) (old : Option (List ℕ)) → Stands monitor.old w [] →
         All IsSlot head.now.slots.items → IsReadHead most old (R.remaining (inner_of feed.old)) head.now →
         IfSome old (λ bytes. HearsAll w bytes monitor.new heard)) }
-    ensures faults { CountsFeed result (faults_of feed.old) (faults_of feed.new) }
+    ensures faults { IsFirstFailure (input AtFeed (R.remaining (inner_of feed.old)) (faults_of feed.old) (faults_of feed.new) ∷ [])
+        (failed_at result) }
 {
     if let Some(breach) = hear_head(monitor, head.slots.as_slice()) {
         return Ok(Heard::Broken { breach });
@@ -134,7 +138,8 @@ pub(crate) fn watch<R: Read>(
 ) -> Result<FeedVerdict, FeedFault>
     ensures bytes { IfOk result (λ verdict. IfSome (R.remaining (inner_of feed.old)) (λ bytes. ArePages (pages_of inputs.now.service) →
         IsFeedVerdict (slots_of inputs.now.cycle) (pages_of inputs.now.service) (certificate_of inputs.now.certificate) named bytes verdict)) }
-    ensures faults { CountsFeed result (faults_of feed.old) (faults_of feed.new) }
+    ensures faults { IsFirstFailure (input AtFeed (R.remaining (inner_of feed.old)) (faults_of feed.old) (faults_of feed.new) ∷ [])
+        (failed_at result) }
 {
     ttx_witness::certificate_laws::certificates_keep_their_rules();
     let (cycle, service) = (&inputs.cycle, &inputs.service);

@@ -1,20 +1,21 @@
 //! Monitors a feed and tells the verdict.
 
-ghost use Rattle.std.specs.Prelude.{IfOk, IfSome, string_bytes};
+ghost use Rattle.std.specs.Prelude.{◌∷◌, [], IfOk, IfSome, string_bytes};
 ghost use Rattle.ttx_cycle.specs.Counters.{inner_of, faults_of};
 ghost use Rattle.ttx_cycle.specs.Cycles.{slots_of};
+ghost use Rattle.ttx_files.specs.Devices.{AtFeed, input, IsFirstFailure};
+ghost use Rattle.ttx_files.specs.Feeds.{failed_at};
 ghost use Rattle.ttx_source.specs.Services.{pages_of};
 ghost use Rattle.ttx_witness.specs.Certificates.{certificate_of};
-ghost use Rattle.ttx_monitor.specs.Feeds.{CountsFeed};
 ghost use Rattle.ttx_monitor.specs.FeedLines.{IsFeedTold};
 
 use crate::feed_lines::feed_text;
 use crate::hearing::watch;
-use crate::verdict::{FeedFault, FeedVerdict};
+use crate::verdict::FeedVerdict;
 use std::alloc::Global;
 use std::io::Read;
 use ttx_cycle::Counted;
-use ttx_files::{Inputs, Told};
+use ttx_files::{FeedFault, Inputs, Told};
 
 /// Hears a feed slot by slot, to its end or to the first slot that breaks the error rule for a page of the service, and tells the verdict
 /// with its text. A feed is what a receiver got: slots of 42 bytes from any slot of the cycle on, an empty line as 42 zero bytes. It begins
@@ -31,7 +32,8 @@ pub fn monitor_feed<R: Read>(
     ensures bytes { IfOk result (λ told. IfSome (R.remaining (inner_of feed.old)) (λ bytes.
         IsFeedTold (slots_of inputs.now.cycle) (pages_of inputs.now.service) (certificate_of inputs.now.certificate) named bytes told.verdict
         (string_bytes told.line))) }
-    ensures faults { CountsFeed result (faults_of feed.old) (faults_of feed.new) }
+    ensures faults { IsFirstFailure (input AtFeed (R.remaining (inner_of feed.old)) (faults_of feed.old) (faults_of feed.new) ∷ [])
+        (failed_at result) }
 {
     ttx_page::laws::pages_keep_their_rules();
     let verdict = watch(alloc, inputs, named, feed)?;

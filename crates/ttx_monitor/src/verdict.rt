@@ -2,15 +2,6 @@
 
 use crate::breach::Breach;
 
-/// Why a feed was not heard to its end or to its first breach.
-#[derive(Clone, Copy, PartialEq, Eq, Debug)]
-pub enum FeedFault {
-    /// A read of the feed failed.
-    Read,
-    /// Memory ran out.
-    NoMemory,
-}
-
 /// Whether a feed stays within the error rule. `start` is the slot of the cycle with which it begins.
 #[derive(Clone, Copy)]
 pub enum FeedVerdict {

@@ -1,6 +1,7 @@
 use Rattle.std.proofs.Common.{Some, None, subst}
 use Rattle.ttx_cycle.specs.Counters.{inner_of}
-use Rattle.ttx_monitor.specs.Feeds.{IsRead, HearsHead}
+use Rattle.ttx_files.specs.Feeds.{IsRead}
+use Rattle.ttx_monitor.specs.Feeds.{HearsHead}
 use Rattle.ttx_monitor.proofs.HeardFeeds.{broken_at_once, heard_on, if_heard}
 use Rattle.ttx_monitor.proofs.hearing.hear_all.Goals as goal
 

@@ -1,6 +1,6 @@
 use Rattle.std.proofs.Common.{◌++◌, Ok, refl, ◌∙◌, subst}
 use Rattle.ttx_cycle.specs.Counters.{inner_of}
-use Rattle.ttx_monitor.specs.Feeds.{AnswersSlot}
+use Rattle.ttx_files.specs.Feeds.{AnswersSlot}
 use Rattle.ttx_monitor.proofs.HeardMore.{so_more, so_broken}
 use Rattle.ttx_monitor.proofs.hearing.hear_on.Goals as goal
 
@@ -23,5 +23,5 @@ loop-count-preserved g c = record {
       let taken = subst (λ n. AnswersSlot old new c.next_slot.new.slot (Ok n)) c.in-Slot.is c.in_ok-next.ensures.bytes in
       so_more w slots (g.R.Read.remaining (inner_of c.args.feed.now)) old new c.loop-count.monitor c.loop-count.count h c.next_slot.new.slot c.hear.new.self taken.0 (c.in_default.ensures.stands w (slots ++ h.more) h.stands)
       ((c.in_default.ensures.first w (slots ++ h.more) h.stands h.within).0 refl);
-  faults = c.in_ok-next.ensures.faults ∙ c.loop-count.invariant.faults;
+  faults = c.in_ok-next.ensures.faults.0 ∙ c.loop-count.invariant.faults;
 }

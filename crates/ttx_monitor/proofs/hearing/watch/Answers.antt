@@ -4,7 +4,7 @@ use Rattle.ttx_cycle.specs.Counters.{inner_of}
 use Rattle.ttx_cycle.specs.Cycles.{slots_of, slots_of-IsCycle}
 use Rattle.ttx_source.specs.Services.{pages_of}
 use Rattle.ttx_witness.specs.Certificates.{certificate_of}
-use Rattle.ttx_monitor.specs.Feeds.{IsReadHead}
+use Rattle.ttx_files.specs.Feeds.{IsReadHead}
 use Rattle.ttx_monitor.specs.FeedVerdicts.{StartsAt, BeginsAt}
 use Rattle.ttx_monitor.specs.Watching.{watched}
 use Rattle.ttx_monitor.proofs.HeardFeeds.{first_period, begins, if_both}
