@@ -13,11 +13,11 @@ use Rattle.ttx_air.specs.declared.airtime.Receivers.TheVariants.{AtOnce, Late}
 use Rattle.ttx_air.specs.Newsrooms.{Candidate, News, Next}
 use Rattle.ttx_air.specs.Judgements.{is_yes, IsJudgement}
 use Rattle.ttx_air.specs.Endings.{Ending, Judged, Unjudged, taken_by, current_after, held_after, later_after, IsEnding, answer_at, Asked}
-use Rattle.ttx_air.specs.LogLines.{reason_line, changed_line, kept_line, ending_line}
+use Rattle.ttx_air.specs.LogLines.{Tick, reason_line, changed_line, kept_line, ending_line}
 use Rattle.ttx_air.specs.Airings.{Written}
 use Rattle.ttx_air.specs.Entries.{Adds}
 use Rattle.ttx_air.specs.Steps.{IsTaking, IsSettled, IsEnded}
-use Rattle.ttx_air.proofs.AddedLines.{adds_same}
+use Rattle.ttx_air.proofs.AddedLines.{adds_same, adds_since}
 
 -- ---- a yes is the splice's
 
@@ -66,28 +66,37 @@ not_taken next verdict test = ap (λ b. if b then Some next.edition else None) t
 
 -- ---- a next edition that was judged
 
-module _ (receivers : Receivers) (next : Candidate) (verdict : LateChange) (started field : ℕ) (old new : OnAir) (log log' : Written) (time : IsTime old)
-    (is : IsJudgement receivers (current_of old) next.edition verdict) (place : ℕ) (at : field ≡ place) where
+module _ (receivers : Receivers) (next : Candidate) (verdict : LateChange) (started : ℕ) (t : Tick) (old new : OnAir) (log log' : Written)
+    (time : IsTime old) (is : IsJudgement receivers (current_of old) next.edition verdict) (place : Tick) (at : t ≡ place)
+    (from : ℕ) (since : started ≡ from) where
   Line : Bool → List ℕ
-  Line b = if b then changed_line field (current_of old) next else kept_line field next.mark (reason_line verdict)
+  Line b = if b then changed_line t (current_of old) next else kept_line t next.mark (reason_line verdict)
 
-  placed : (ending : Ending) → ending_line field (current_of old) ending ≡ ending_line place (current_of old) ending
+  placed : (ending : Ending) → ending_line t (current_of old) ending ≡ ending_line place (current_of old) ending
   placed ending = ap (λ f. ending_line f (current_of old) ending) at
 
-  pub settled_is_ended : IsSettled verdict next started field old new log log' →
+  pub settled_is_ended : IsSettled verdict next started t old new log log' →
       (ending : Ending) × IsEnded receivers ending old new × (answer_at ending ≡ Some (Next next))
-      × Adds started log log' (ending_line place (current_of old) ending)
+      × Adds from log log' (ending_line place (current_of old) ending)
   unfolding Line
-  settled_is_ended (inl (test, taking, adds)) =
-      (Judged next verdict, ended_taken receivers next verdict old new time is test taking, refl, adds_same (sym (ap Line test) ∙ placed (Judged next verdict)) adds)
+  settled_is_ended (inl (test, taking, adds)) = (
+    Judged next verdict,
+    ended_taken receivers next verdict old new time is test taking,
+    refl,
+    adds_since since (adds_same (sym (ap Line test) ∙ placed (Judged next verdict)) adds),
+  )
   settled_is_ended (inr (test, same, inl adds)) = (
     Judged next verdict,
     ended_same receivers (Judged next verdict) old new same time.between (time.held, is) (not_taken next verdict test),
     refl,
-    adds_same (sym (ap Line test) ∙ placed (Judged next verdict)) adds,
+    adds_since since (adds_same (sym (ap Line test) ∙ placed (Judged next verdict)) adds),
   )
-  settled_is_ended (inr (test, same, inr adds)) =
-      (Unjudged next, ended_same receivers (Unjudged next) old new same time.between time.held refl, refl, adds_same (placed (Unjudged next)) adds)
+  settled_is_ended (inr (test, same, inr adds)) = (
+    Unjudged next,
+    ended_same receivers (Unjudged next) old new same time.between time.held refl,
+    refl,
+    adds_since since (adds_same (placed (Unjudged next)) adds),
+  )
 
 -- ---- the newsroom's answer
 

@@ -2,20 +2,21 @@
 use Rattle.std.proofs.Common.{◌≡◌, inl, inr, ℕ, suc, ◌+◌, ◌/◌, ◌^◌, ◌-◌, min, true, false, nat_lt, if◌then◌else◌, List, [], ◌∷◌, ◌++◌, length}
 use Rattle.std.proofs.Common.{sym, ap, ◌∙◌, subst, arith, length-append, append_assoc}
 use Rattle.std.proofs.lemmas.Bool.{cases_lt, lt-ltb, le-ltb}
+use Rattle.ttx_send.specs.Airing.{Times}
 use Rattle.ttx_playout.specs.Schedules.{Edition, Showing, one_more}
 use Rattle.ttx_playout.specs.Takeovers.{current_of, at_of, held_of, after_place, after_hold, after_slot, HasSent}
 use Rattle.ttx_playout.specs.declared.state.OnAir.{OnAir}
 use Rattle.ttx_air.specs.declared.airtime.Receivers.{Receivers}
 use Rattle.ttx_air.specs.Newsrooms.{Candidate, News}
 use Rattle.ttx_air.specs.Endings.{Ending, Playout, with_period, playout_after, field_after, taken_by, current_after, held_after, IsEnding, answer_at, Asked}
-use Rattle.ttx_air.specs.LogLines.{first_line, lines_of, ending_line}
+use Rattle.ttx_air.specs.LogLines.{tick, first_line, lines_of, ending_line}
 use Rattle.ttx_air.specs.Airings.{Written, Logs, IsAired}
 use Rattle.ttx_air.specs.Entries.{Adds}
 use Rattle.ttx_air.specs.Steps.{IsEnded, SoFar}
 
-module _ {N : Type 0} (gives : N → Edition → ℕ → News → N → Type 0) (receivers : Receivers) (lines started : ℕ) (first : Candidate) (gone : N)
+module _ {N : Type 0} (gives : N → Edition → ℕ → News → N → Type 0) (receivers : Receivers) (times : Times) (lines started : ℕ) (first : Candidate) (gone : N)
     (begin : Written) (past : List Ending) (slots : List (List ℕ)) (slot : List ℕ) (old mid : OnAir) (asked : N) (log : Written)
-    (so_far : SoFar gives receivers lines started first gone begin old asked log past slots)
+    (so_far : SoFar gives receivers times lines started first gone begin old asked log past slots)
     (same : current_of mid ≡ current_of old) (place : at_of mid ≡ after_place old) (held : held_of mid ≡ after_hold old)
     (on_air : (log : List (List ℕ)) (first : Edition) (later : List Showing) → HasSent log old first later →
     HasSent (log ++ slot ∷ []) mid first (after_slot old later)) where
@@ -36,7 +37,7 @@ module _ {N : Type 0} (gives : N → Edition → ℕ → News → N → Type 0) 
       | inr ge ↦ absurd (amid (place ∙ ap (λ b. if b then at_of old + 1 else 0) (le-ltb (at_of old + 1) (length (current_of old).cycle) ge)))
     ]
 
-    pub so_far_amid : SoFar gives receivers lines started first gone begin mid asked log past (slots ++ slot ∷ [])
+    pub so_far_amid : SoFar gives receivers times lines started first gone begin mid asked log past (slots ++ slot ∷ [])
     so_far_amid =
         let at : at_of mid ≡ at_of old + 1 = place ∙ ap (λ b. if b then at_of old + 1 else 0) test_amid in
         record {
@@ -94,7 +95,7 @@ module _ {N : Type 0} (gives : N → Edition → ℕ → News → N → Type 0) 
 
     module _ (new : OnAir) (news : N) (log' : Written) (ending : Ending) (number : ℕ) (is : number ≡ suc (length slots))
         (ended : IsEnded receivers ending mid new) (asks : Asked gives asked (current_of mid) (number / lines) (answer_at ending) news)
-        (adds : Adds started log log' (ending_line (number / lines) (current_of mid) ending)) where
+        (adds : Adds started log log' (ending_line (tick times (number / lines)) (current_of mid) ending)) where
       aired_end : IsAired gives receivers first.edition gone new news (ending ∷ past) (slots ++ slot ∷ [])
       aired_end = record {
         sent = ended.sent (slots ++ slot ∷ []) first.edition (one_more playout.later)
@@ -116,18 +117,19 @@ module _ {N : Type 0} (gives : N → Edition → ℕ → News → N → Type 0) 
         );
       }
 
-      line_is : ending_line (number / lines) (current_of mid) ending ≡ ending_line (field_after first.edition past) playout.current ending
-      line_is = λ i. ending_line (field_is number is i) (current_is i) ending
+      line_is : ending_line (tick times (number / lines)) (current_of mid) ending
+          ≡ ending_line (tick times (field_after first.edition past)) playout.current ending
+      line_is = λ i. ending_line (tick times (field_is number is i)) (current_is i) ending
 
-      pub so_far_end : SoFar gives receivers lines started first gone begin new news log' (ending ∷ past) (slots ++ slot ∷ [])
+      pub so_far_end : SoFar gives receivers times lines started first gone begin new news log' (ending ∷ past) (slots ++ slot ∷ [])
       so_far_end =
-          let head = first_line first.mark first.edition in
+          let head = first_line (tick times 0) first.mark first.edition in
           record {
             aired = aired_end;
             lines = so_far.lines;
             faults = so_far.faults;
             logged = subst (Logs begin log')
-                (append_assoc head (lines_of first.edition past) (ending_line (number / lines) (current_of mid) ending)
-                ∙ ap (λ l. head ++ (lines_of first.edition past ++ l)) line_is)
-                (adds.further begin (head ++ lines_of first.edition past) so_far.faults so_far.logged);
+                (append_assoc head (lines_of times first.edition past) (ending_line (tick times (number / lines)) (current_of mid) ending)
+                ∙ ap (λ l. head ++ (lines_of times first.edition past ++ l)) line_is)
+                (adds.further begin (head ++ lines_of times first.edition past) so_far.faults so_far.logged);
           }

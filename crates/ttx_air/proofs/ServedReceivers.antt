@@ -41,9 +41,9 @@ followed_through takes goes gap first (ending ∷ past) served are =
 
 pub airing_is_shown : {N : Type 0} (gives : N → Edition → ℕ → News → N → Type 0) → AirIsShown → EditionsAreTaken → ThroughIsWhile → ThroughGoesOn →
     AiringIsShown gives
-airing_is_shown gives shows takes while goes gap first before after last a start written fits air whole on p sel from to le within stays tau begin former d
+airing_is_shown gives shows takes while goes gap times first before after last a written fits air whole on p sel from to le within stays tau begin former d
     received low early begun is_former permitted long ends on_still run =
     let later = (playout_after first.edition a.past).later in
     let through = followed_through takes goes gap first.edition a.past a.served a.aired.endings in
-    shows a.slots a.on_air first.edition later a.aired.sent start written fits air whole on gap p sel from to le within stays
+    shows a.slots a.on_air first.edition later a.aired.sent times written fits air whole on gap p sel from to le within stays
     (while first.edition later p sel from to within stays gap through) tau begin former d received low early begun is_former permitted long ends on_still run

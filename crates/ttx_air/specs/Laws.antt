@@ -19,7 +19,7 @@ use Rattle.ttx_page.specs.Streams.{Stream}
 use Rattle.ttx_witness.specs.Coverage.{limit}
 use Rattle.ttx_certify.specs.Seen.{HasView}
 use Rattle.ttx_late.specs.LateReceivers.{LateMemory, LateRun}
-use Rattle.ttx_send.specs.Times.{Moment}
+use Rattle.ttx_send.specs.Airing.{Times}
 use Rattle.ttx_playout.specs.Schedules.{Edition, Showing, edition_at, IsEdition, StaysOn, HasBegun, IsStillOn}
 use Rattle.ttx_playout.specs.LateSchedules.{IsFollowedWhile}
 use Rattle.ttx_playout.specs.Takeovers.{HasSent}
@@ -64,33 +64,33 @@ ShownFromAir slots o first later has written air gap =
 abbrev pub AirIsSeen : Type 0
 AirIsSeen =
     (slots : List (List ℕ)) (o : OnAir) (first : Edition) (later : List Showing) → (has : HasSent slots o first later) →
-    (start : Moment) (written : ℕ) → written ≤ length (air_of start first slots) →
-    (air : Stream) → ((i : ℤ) → IsSlot (air i)) → IsOnAir (air_of start first slots) written air (has.next -ℤ pos (length slots)) →
+    (times : Times) (written : ℕ) → written ≤ length (air_of times first slots) →
+    (air : Stream) → ((i : ℤ) → IsSlot (air i)) → IsOnAir (air_of times first slots) written air (has.next -ℤ pos (length slots)) →
     SeenFromAir slots o first later has written air
 
 abbrev pub AirIsShown : Type 0
 AirIsShown =
     (slots : List (List ℕ)) (o : OnAir) (first : Edition) (later : List Showing) → (has : HasSent slots o first later) →
-    (start : Moment) (written : ℕ) → written ≤ length (air_of start first slots) →
-    (air : Stream) → ((i : ℤ) → IsSlot (air i)) → IsOnAir (air_of start first slots) written air (has.next -ℤ pos (length slots)) →
+    (times : Times) (written : ℕ) → written ≤ length (air_of times first slots) →
+    (air : Stream) → ((i : ℤ) → IsSlot (air i)) → IsOnAir (air_of times first slots) written air (has.next -ℤ pos (length slots)) →
     (gap : ℕ) → ShownFromAir slots o first later has written air gap
 
 -- of what `air` leaves behind: the schedule's editions are the first one and those that took over
 abbrev pub AiringIsSeen : {N : Type 0} → (N → Edition → ℕ → News → N → Type 0) → Type 0
 AiringIsSeen {N} gives =
-    (receivers : Receivers) (first : Candidate) (before after : Scene N) (last : List ℕ) → (a : Aired gives receivers first before after last) →
-    (start : Moment) (written : ℕ) → written ≤ length (air_of start first.edition a.slots) →
+    (receivers : Receivers) (times : Times) (first : Candidate) (before after : Scene N) (last : List ℕ) →
+    (a : Aired gives receivers times first before after last) → (written : ℕ) → written ≤ length (air_of times first.edition a.slots) →
     (air : Stream) → ((i : ℤ) → IsSlot (air i)) →
-    IsOnAir (air_of start first.edition a.slots) written air (a.aired.sent.next -ℤ pos (length a.slots)) →
+    IsOnAir (air_of times first.edition a.slots) written air (a.aired.sent.next -ℤ pos (length a.slots)) →
     SeenFromAir a.slots a.on_air first.edition (playout_after first.edition a.past).later a.aired.sent written air
 
 -- Where late receivers are served, each page that stays is followed by another page number in time.
 abbrev pub AiringIsShown : {N : Type 0} → (N → Edition → ℕ → News → N → Type 0) → Type 0
 AiringIsShown {N} gives =
-    (gap : ℕ) (first : Candidate) (before after : Scene N) (last : List ℕ) → (a : Aired gives (Late gap) first before after last) →
-    (start : Moment) (written : ℕ) → written ≤ length (air_of start first.edition a.slots) →
+    (gap : ℕ) (times : Times) (first : Candidate) (before after : Scene N) (last : List ℕ) →
+    (a : Aired gives (Late gap) times first before after last) → (written : ℕ) → written ≤ length (air_of times first.edition a.slots) →
     (air : Stream) → ((i : ℤ) → IsSlot (air i)) →
-    IsOnAir (air_of start first.edition a.slots) written air (a.aired.sent.next -ℤ pos (length a.slots)) →
+    IsOnAir (air_of times first.edition a.slots) written air (a.aired.sent.next -ℤ pos (length a.slots)) →
     let later = (playout_after first.edition a.past).later in
     (p : Page) (sel : Selection) (from to : ℕ) → from ≤ to → to ≤ length later → StaysOn first.edition later p sel from to →
     (tau begin : ℤ) (former d : LateMemory) (received : List (List ℕ)) →

@@ -4,6 +4,7 @@ pub mod Endings
 pub mod LogLines
 pub mod Airings
 pub mod Entries
+pub mod Ticks
 pub mod Steps
 pub mod Listings
 pub mod Laws

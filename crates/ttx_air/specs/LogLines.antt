@@ -2,7 +2,8 @@
 --
 --   lists, lacking          whether a page with this id is in a list; how many of the pages have an id that no page of the other list has
 --   pages_text, seconds_text, deadline_text         a number of pages; a number of fields in seconds; a deadline
---   field_text, at_field    the field before which something happens
+--   Tick, tick_at, tick     a field, and the moment at which it is sent
+--   field_text, at_field    the field before which something happens, with the time that the clock shows
 --   reason_line             why a next edition does not take over, as `splice` says it
 --   edition_text, change_text       what is said of a first edition, and of a change
 --   first_line, changed_line, kept_line, end_line   the lines of the log
@@ -14,6 +15,9 @@ use Rattle.ttx_page.specs.Pages.{Page}
 use Rattle.ttx_certify.specs.VerdictLines.{page_words, slot_words}
 use Rattle.ttx_proof.specs.SpliceLines.{splice_line}
 use Rattle.ttx_proof.specs.declared.verdict.SpliceVerdict.TheVariants as splice
+use Rattle.ttx_send.specs.Times.{Moment}
+use Rattle.ttx_send.specs.IsoTexts.{iso_text}
+use Rattle.ttx_send.specs.Airing.{Times, field_time}
 use Rattle.ttx_playout.specs.Schedules.{Edition}
 use Rattle.ttx_playout.specs.declared.late_change.LateChange.{LateChange}
 use Rattle.ttx_playout.specs.declared.late_change.LateChange.TheVariants.{Yes, No, NeverShown, TooFar, Unfollowed}
@@ -47,12 +51,22 @@ reason_line (Unfollowed page) = page_words (codes "no 9 unfollowed") page ++ 10 
 abbrev pub deadline_text : ℕ → List ℕ
 deadline_text fields = codes ", deadline " ++ decimal fields ++ codes " fields (" ++ seconds_text fields ++ codes " s)"
 
-abbrev pub field_text : ℕ → List ℕ
-field_text field = codes "field " ++ decimal field
+pub record Tick : Type 0 where
+  pub field : ℕ
+  pub moment : Moment
+
+abbrev pub tick_at : ℕ → Moment → Tick
+tick_at field moment = record { field = field; moment = moment }
+
+abbrev pub tick : Times → ℕ → Tick
+tick times field = tick_at field (field_time times field)
+
+abbrev pub field_text : Tick → List ℕ
+field_text t = codes "field " ++ decimal t.field ++ codes " " ++ iso_text t.moment
 
 -- what happened before this field
-abbrev pub at_field : ℕ → List ℕ → List ℕ
-at_field field event = field_text field ++ event
+abbrev pub at_field : Tick → List ℕ → List ℕ
+at_field t event = field_text t ++ event
 
 -- a first edition
 abbrev pub edition_text : Edition → List ℕ
@@ -65,29 +79,30 @@ change_text old new =
     pages_text (lacking old.pages new.pages) ++ codes " new, " ++ decimal (lacking new.pages old.pages) ++ codes " gone, deadline "
     ++ decimal new.certificate.deadline ++ codes "\n"
 
-abbrev pub first_line : List ℕ → Edition → List ℕ
-first_line mark first = at_field 0 (codes " on air" ++ mark ++ codes ": " ++ edition_text first)
+abbrev pub first_line : Tick → List ℕ → Edition → List ℕ
+first_line t mark first = at_field t (codes " on air" ++ mark ++ codes ": " ++ edition_text first)
 
-abbrev pub changed_line : ℕ → Edition → Candidate → List ℕ
-changed_line field old new = at_field field (codes " changed" ++ new.mark ++ codes ": " ++ change_text old new.edition)
+abbrev pub changed_line : Tick → Edition → Candidate → List ℕ
+changed_line t old new = at_field t (codes " changed" ++ new.mark ++ codes ": " ++ change_text old new.edition)
 
 -- the reason ends the line
-abbrev pub kept_line : ℕ → List ℕ → List ℕ → List ℕ
-kept_line field mark reason = at_field field (codes " kept" ++ mark ++ codes ": " ++ reason)
+abbrev pub kept_line : Tick → List ℕ → List ℕ → List ℕ
+kept_line t mark reason = at_field t (codes " kept" ++ mark ++ codes ": " ++ reason)
 
-abbrev pub end_line : ℕ → List ℕ
-end_line field = at_field field (codes " end\n")
+abbrev pub end_line : Tick → List ℕ
+end_line t = at_field t (codes " end\n")
 
 -- of the edition that was on the air in the period that ended
-abbrev pub ending_line : ℕ → Edition → Ending → List ℕ
-ending_line field current Held = []
-ending_line field current Quiet = []
-ending_line field current (Unfit mark words) = kept_line field mark (words ++ codes "\n")
-ending_line field current (Judged next verdict) =
-    if is_yes verdict then changed_line field current next else kept_line field next.mark (reason_line verdict)
-ending_line field current (Unjudged next) = kept_line field next.mark (codes "out of memory\n")
+abbrev pub ending_line : Tick → Edition → Ending → List ℕ
+ending_line t current Held = []
+ending_line t current Quiet = []
+ending_line t current (Unfit mark words) = kept_line t mark (words ++ codes "\n")
+ending_line t current (Judged next verdict) =
+    if is_yes verdict then changed_line t current next else kept_line t next.mark (reason_line verdict)
+ending_line t current (Unjudged next) = kept_line t next.mark (codes "out of memory\n")
 
 -- the newest one last
-abbrev pub lines_of : Edition → List Ending → List ℕ
-lines_of first [] = []
-lines_of first (ending ∷ past) = lines_of first past ++ ending_line (field_after first past) (playout_after first past).current ending
+abbrev pub lines_of : Times → Edition → List Ending → List ℕ
+lines_of times first [] = []
+lines_of times first (ending ∷ past) =
+    lines_of times first past ++ ending_line (tick times (field_after first past)) (playout_after first past).current ending

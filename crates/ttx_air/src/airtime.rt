@@ -1,6 +1,4 @@
-//! When an airing begins, how long it lasts, and whom it serves.
-
-use ttx_send::Moment;
+//! By which clock an airing runs, how long it lasts, and whom it serves.
 
 /// The receivers that have to be served.
 #[derive(Clone, Copy)]
@@ -12,10 +10,10 @@ pub enum Receivers {
     Late { gap: usize },
 }
 
-/// When an airing begins, how many fields it sends, and for which receivers.
+/// The clock of an airing, how many fields it sends, and for which receivers.
 #[derive(Clone, Copy)]
-pub struct Airtime {
-    pub start: Moment,
+pub struct Airtime<C> {
+    pub clock: C,
     pub fields: u32,
     pub receivers: Receivers,
 }

@@ -3,7 +3,9 @@
 ghost use Rattle.std.specs.Prelude.{◌≡◌, ◌+◌, ◌*◌, ◌/◌, ◌%◌, ◌==◌, ◌++◌, ◌∷◌, [], codes, if◌then◌else◌};
 ghost use Rattle.ttx_playout.specs.Takeovers.{edition_of};
 ghost use Rattle.ttx_air.specs.Airings.{written_of};
+ghost use Rattle.ttx_send.specs.IsoTexts.{iso_text};
 ghost use Rattle.ttx_air.specs.Entries.{Adds};
+ghost use Rattle.ttx_air.specs.Ticks.{tick_of};
 ghost use Rattle.ttx_air.specs.Newsrooms.{candidate_of};
 ghost use Rattle.ttx_air.specs.LogLines.{pages_text, seconds_text, deadline_text, field_text, edition_text, change_text, first_line, changed_line, kept_line, end_line};
 
@@ -13,19 +15,33 @@ use crate::log::{put, put_number};
 use std::io::Write;
 use ttx_cycle::Counted;
 use ttx_playout::Edition;
+use ttx_send::Moment;
+use ttx_send::iso_texts::{clock_text, date_text, offset_text};
 
-// The field before which something happens, and the log's count of faults at the start of the airing.
+// The field before which something happens, its moment, and the log's count of faults at the start of the airing.
 #[derive(Clone, Copy)]
 pub(crate) struct Entry {
     pub(crate) started: u64,
     pub(crate) field: usize,
+    pub(crate) moment: Moment,
 }
 
-fn put_field<L: Write>(log: &mut Counted<L>, entry: Entry)
-    ensures { Adds entry.started (written_of L.contents log.old) (written_of L.contents log.new) (field_text entry.field) }
+fn put_time<L: Write>(log: &mut Counted<L>, started: u64, moment: &Moment)
+    ensures { Adds started (written_of L.contents log.old) (written_of L.contents log.new) (iso_text moment.now) }
+{
+    put(log, started, &date_text(moment));
+    put(log, started, b"T");
+    put(log, started, &clock_text(moment));
+    put(log, started, &offset_text(moment));
+}
+
+fn put_field<L: Write>(log: &mut Counted<L>, entry: &Entry)
+    ensures { Adds entry.now.started (written_of L.contents log.old) (written_of L.contents log.new) (field_text (tick_of entry.now)) }
 {
     put(log, entry.started, b"field ");
     put_number(log, entry.started, entry.field);
+    put(log, entry.started, b" ");
+    put_time(log, entry.started, &entry.moment);
 }
 
 // The word for so many pages.
@@ -81,15 +97,21 @@ fn put_edition<L: Write>(log: &mut Counted<L>, started: u64, first: &Edition)
     put(log, started, b" slots\n");
 }
 
-// Adds the line of a first edition, which is on the air from field 0 on.
-pub(crate) fn note_first<L: Write>(log: &mut Counted<L>, started: u64, mark: &[u8], first: &Edition)
-    ensures { Adds started (written_of L.contents log.old) (written_of L.contents log.new) (first_line mark.now (edition_of first.now)) }
+// Adds the line of a first edition.
+pub(crate) fn note_first<L: Write>(
+    log: &mut Counted<L>,
+    entry: &Entry,
+    mark: &[u8],
+    first: &Edition,
+)
+    ensures { Adds entry.now.started (written_of L.contents log.old) (written_of L.contents log.new)
+        (first_line (tick_of entry.now) mark.now (edition_of first.now)) }
 {
-    put_field(log, Entry { started, field: 0 });
-    put(log, started, b" on air");
-    put(log, started, mark);
-    put(log, started, b": ");
-    put_edition(log, started, first);
+    put_field(log, entry);
+    put(log, entry.started, b" on air");
+    put(log, entry.started, mark);
+    put(log, entry.started, b": ");
+    put_edition(log, entry.started, first);
 }
 
 // The words behind the mark: how many pages are new and how many are gone, and the deadline.
@@ -109,12 +131,12 @@ fn put_change<L: Write>(log: &mut Counted<L>, started: u64, old: &Edition, new: 
 // Adds the line of an edition that takes over.
 pub(crate) fn note_change<L: Write>(
     log: &mut Counted<L>,
-    entry: Entry,
+    entry: &Entry,
     old: &Edition,
     new: &Candidate,
 )
-    ensures { Adds entry.started (written_of L.contents log.old) (written_of L.contents log.new)
-        (changed_line entry.field (edition_of old.now) (candidate_of new.now)) }
+    ensures { Adds entry.now.started (written_of L.contents log.old) (written_of L.contents log.new)
+        (changed_line (tick_of entry.now) (edition_of old.now) (candidate_of new.now)) }
 {
     put_field(log, entry);
     put(log, entry.started, b" changed");
@@ -124,8 +146,8 @@ pub(crate) fn note_change<L: Write>(
 }
 
 // Adds the line of a text that does not take over. The reason ends the line.
-pub(crate) fn note_kept<L: Write>(log: &mut Counted<L>, entry: Entry, mark: &[u8], reason: &[u8])
-    ensures { Adds entry.started (written_of L.contents log.old) (written_of L.contents log.new) (kept_line entry.field mark.now reason.now) }
+pub(crate) fn note_kept<L: Write>(log: &mut Counted<L>, entry: &Entry, mark: &[u8], reason: &[u8])
+    ensures { Adds entry.now.started (written_of L.contents log.old) (written_of L.contents log.new) (kept_line (tick_of entry.now) mark.now reason.now) }
 {
     put_field(log, entry);
     put(log, entry.started, b" kept");
@@ -135,17 +157,17 @@ pub(crate) fn note_kept<L: Write>(log: &mut Counted<L>, entry: Entry, mark: &[u8
 }
 
 // Adds the line of a text that is no edition.
-pub(crate) fn note_refused<L: Write>(log: &mut Counted<L>, entry: Entry, mark: &[u8], words: &[u8])
-    ensures { Adds entry.started (written_of L.contents log.old) (written_of L.contents log.new)
-        (kept_line entry.field mark.now (words.now ++ codes "\n")) }
+pub(crate) fn note_refused<L: Write>(log: &mut Counted<L>, entry: &Entry, mark: &[u8], words: &[u8])
+    ensures { Adds entry.now.started (written_of L.contents log.old) (written_of L.contents log.new)
+        (kept_line (tick_of entry.now) mark.now (words.now ++ codes "\n")) }
 {
     note_kept(log, entry, mark, words);
     put(log, entry.started, b"\n");
 }
 
 // Adds the last line.
-pub(crate) fn note_end<L: Write>(log: &mut Counted<L>, entry: Entry)
-    ensures { Adds entry.started (written_of L.contents log.old) (written_of L.contents log.new) (end_line entry.field) }
+pub(crate) fn note_end<L: Write>(log: &mut Counted<L>, entry: &Entry)
+    ensures { Adds entry.now.started (written_of L.contents log.old) (written_of L.contents log.new) (end_line (tick_of entry.now)) }
 {
     put_field(log, entry);
     put(log, entry.started, b" end\n");

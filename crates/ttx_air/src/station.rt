@@ -1,6 +1,6 @@
 //! What is on the air while it is sent.
 
-ghost use Rattle.std.specs.Prelude.{◌≡◌, ℕ, ◌<◌, ◌/◌, ◌^◌, ◌++◌, ◌∷◌, [], suc, List, length};
+ghost use Rattle.std.specs.Prelude.{◌≡◌, ℕ, ◌+◌, ◌<◌, ◌/◌, ◌^◌, ◌++◌, ◌∷◌, [], suc, List, length};
 ghost use Rattle.ttx_playout.specs.Takeovers.{edition_of};
 ghost use Rattle.ttx_air.specs.Newsrooms as offers;
 ghost use Rattle.ttx_air.specs.Endings.{Ending};
@@ -14,11 +14,13 @@ use std::alloc::Global;
 use std::io::Write;
 use ttx_cycle::Counted;
 use ttx_playout::OnAir;
+use ttx_send::Clock;
 
-// What stays the same throughout an airing: the receivers, the lines to a field, and the log's count of faults at the start.
+// What stays the same throughout an airing: the receivers, the clock, the lines to a field, and the log's count of faults at the start.
 #[derive(Clone, Copy)]
-pub(crate) struct Terms {
+pub(crate) struct Terms<C> {
     pub(crate) receivers: Receivers,
+    pub(crate) clock: C,
     pub(crate) lines: usize,
     pub(crate) started: u64,
 }
@@ -39,20 +41,20 @@ pub(crate) fn next_field(station: &Station, lines: usize) -> usize
 }
 
 // The next slot. At the end of a period the newsroom may be asked.
-pub(crate) fn next_sent<N: Newsroom, L: Write>(
+pub(crate) fn next_sent<C: Clock, N: Newsroom, L: Write>(
     alloc: Global,
-    terms: Terms,
+    terms: Terms<C>,
     station: &mut Station,
     newsroom: &mut N,
     log: &mut Counted<L>,
 ) -> [u8; 42]
     requires some { 0 < terms.lines }
-    requires before { station.old.sent < 2 ^ 63 }
+    requires before { station.old.sent < 2 ^ 37 + 2 ^ 8 }
     ensures sent { station.new.sent ≡ suc station.old.sent }
     ensures so_far { (gone : N) (first : offers.Candidate) (begin : Written) (past : List Ending) (slots : List (List ℕ)) →
         station.old.sent ≡ length slots →
-        SoFar N.gives terms.receivers terms.lines terms.started first gone begin station.old.on_air newsroom.old (written_of L.contents log.old) past slots →
-        (endings : List Ending) × SoFar N.gives terms.receivers terms.lines terms.started first gone begin station.new.on_air newsroom.new
+        SoFar N.gives terms.receivers (C.shows terms.clock) terms.lines terms.started first gone begin station.old.on_air newsroom.old (written_of L.contents log.old) past slots →
+        (endings : List Ending) × SoFar N.gives terms.receivers (C.shows terms.clock) terms.lines terms.started first gone begin station.new.on_air newsroom.new
         (written_of L.contents log.new) endings (slots ++ result ∷ []) }
 {
     let slot = station.on_air.next_slot();

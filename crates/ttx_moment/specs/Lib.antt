@@ -2,3 +2,4 @@ pub mod Instants
 pub mod Texts
 pub mod Clocks
 pub mod Zones
+pub mod AirClocks

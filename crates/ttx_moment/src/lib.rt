@@ -9,4 +9,4 @@ mod zones;
 pub use clocks::moment_by_clock;
 pub use instants::moment_of;
 pub use texts::read_instant;
-pub use zones::ZoneClock;
+pub use zones::{AirClock, ZoneClock};

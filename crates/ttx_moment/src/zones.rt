@@ -54,3 +54,23 @@ impl Clock for ZoneClock<'_> {
         moment.by_clock(ahead(offset), LocalOffset::of_seconds(offset))
     }
 }
+
+/// A clock with one offset, or that of a zone.
+#[derive(Clone, Copy)]
+pub enum AirClock<'a> {
+    Fixed(Moment),
+    Zone(ZoneClock<'a>),
+}
+
+impl Clock for AirClock<'_> {
+    ghost use Rattle.ttx_moment.specs.AirClocks.{shown_by};
+
+    ghost shows = { shown_by };
+
+    fn after(&self, seconds: u32) -> Moment {
+        match self {
+            AirClock::Fixed(start) => start.after(seconds),
+            AirClock::Zone(clock) => clock.after(seconds),
+        }
+    }
+}

@@ -10,7 +10,7 @@ returns-then-is_between-clause-so_far g c = λ gone first begin past slots is so
     let ended = c.period_ended.ensures.ending in
     let number : c.args.station.now.sent + 1 ≡ suc (length slots) = omega (arith, is) in (
       ended.0 ∷ past,
-      so_far_end g.N.Newsroom.gives terms.receivers terms.lines terms.started first gone begin past slots c.next_slot-slot.result c.args.station.now.on_air
+      so_far_end g.N.Newsroom.gives terms.receivers (g.C.Clock.shows terms.clock) terms.lines terms.started first gone begin past slots c.next_slot-slot.result c.args.station.now.on_air
           c.next_slot-slot.new.self c.args.newsroom.now _ so_far e.same e.place e.held e.on_air end c.period_ended.new.station.on_air
           c.period_ended.new.newsroom _ ended.0 (c.args.station.now.sent + 1) number ended.1 ended.2 ended.3,
     )
@@ -20,6 +20,6 @@ returns-else-is_between-clause-so_far g c = λ gone first begin past slots is so
     let terms = c.args.terms in
     let e = c.next_slot-slot.ensures in (
       past,
-      so_far_amid g.N.Newsroom.gives terms.receivers terms.lines terms.started first gone begin past slots c.next_slot-slot.result c.args.station.now.on_air
+      so_far_amid g.N.Newsroom.gives terms.receivers (g.C.Clock.shows terms.clock) terms.lines terms.started first gone begin past slots c.next_slot-slot.result c.args.station.now.on_air
           c.next_slot-slot.new.self c.args.newsroom.now _ so_far e.same e.place e.held e.on_air (λ end. search rules),
     )
