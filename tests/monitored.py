@@ -7,7 +7,8 @@ A feed is what a receiver got of a cycle that is sent again and again, from any 
 error rule and outside of it, lost slots, slots where none was sent, and a rest. The slot that it begins with is named or found, and it is
 read from a file or from standard input. The plain program in this script says what the error rule says: an empty slot is received empty,
 each other byte with one wrong bit at most, and of any K successive transmissions of a text byte one is received right; clocks in page
-headers and packets 8/30 are free. Feeds of the first cycle begin with each of its slots.
+headers and packets 8/30 are free. It says too where the feed has slipped: a slot does not fit, nor do most of the next period, but so many
+slots on in the cycle most of them do, and the first packet among them. Feeds of the first cycle begin with each of its slots.
 """
 import os
 import random
@@ -55,7 +56,7 @@ class Cycle:
 
     def __init__(self, data):
         self.slots = [data[i:i + 42] for i in range(0, len(data), 42)]
-        self.compared, self.texts, latest = [], [], {}
+        self.compared, self.texts, self.seen, latest = [], [], {}, {}
         for turn in range(2):
             self.compared, self.texts = [], []
             for slot in self.slots:
@@ -70,18 +71,43 @@ class Cycle:
 
     def far(self, at, received):
         """The first byte that the rule does not allow in place of slot `at`, or None."""
-        sent = self.slots[at % len(self)]
+        key = at % len(self), received
+        if key not in self.seen:
+            self.seen[key] = self.compare(*key)
+        return self.seen[key]
+
+    def compare(self, at, received):
+        sent = self.slots[at]
         if sent == received:
             return None
-        for x in range(self.compared[at % len(self)]):
+        for x in range(self.compared[at]):
             if bin(sent[x] ^ received[x]).count("1") > (0 if sent == EMPTY else 1):
                 return x
+        return None
+
+    def misfits(self, place, window):
+        """How many of these slots cannot have been received from this place on."""
+        return sum(self.far(place + n, slot) is not None for n, slot in enumerate(window))
+
+    def slip(self, place, window):
+        """By how many slots a feed has slipped that should go on with these slots at this place; None if it has not."""
+        first = next((n for n, slot in enumerate(window) if slot != EMPTY), None)
+        if first is None or 2 * self.misfits(place, window) <= len(window):
+            return None
+        for by in range(1, len(self)):
+            if self.far(place + by + first, window[first]) is None and 2 * self.misfits(place + by, window) < len(window):
+                return by
         return None
 
     def start_of(self, feed):
         """The slot from which the first period fits best."""
         head = feed[:len(self)]
-        return min(range(len(self)), key=lambda start: (sum(self.far(start + n, slot) is not None for n, slot in enumerate(head)), start))
+        return min(range(len(self)), key=lambda start: (self.misfits(start, head), start))
+
+
+def signed(by, count):
+    """Slots that were lost, or, below 0, inserted, as what is less."""
+    return by if by <= count - by else by - count
 
 
 def verdict(cycle, ids, repeat, feed, rest, named):
@@ -91,6 +117,9 @@ def verdict(cycle, ids, repeat, feed, rest, named):
     for n, received in enumerate(feed):
         at = (start + n) % len(cycle)
         sent, far = cycle.slots[at], cycle.far(at, received)
+        by = None if far is None else cycle.slip(at, feed[n:n + len(cycle)])
+        if by is not None:
+            return 1, f"no slot {n} shifted by {signed(by, len(cycle))} start {start}\n"
         if far is not None:
             way = "unlike" if sent == EMPTY else "lost" if received == EMPTY else f"byte {far}"
             return 1, f"no slot {n} {way} start {start}\n"
@@ -126,7 +155,7 @@ def damaged(draw, cycle, ids, start, count, repeat):
                 slot[x] = draw.randrange(256)
         feed.append(bytes(slot))
     sent = [n for n in range(count) if feed[n] != EMPTY]
-    kind = draw.choice(["clean", "near", "near", "streak", "streak", "two bits", "lost", "unlike", "slipped"])
+    kind = draw.choice(["clean", "near", "near", "streak", "streak", "two bits", "lost", "unlike", "slipped", "slipped"])
     for n in draw.sample(sent, len(sent) // 3) if kind != "clean" and draw.random() < 0.7 else []:
         flip(feed, n, draw.randrange(2), 1 << draw.randrange(8))
     if kind == "near" and sent and repeat > 1:
@@ -152,7 +181,11 @@ def damaged(draw, cycle, ids, start, count, repeat):
     if kind == "unlike" and len(sent) < count:
         flip(feed, draw.choice([n for n in range(count) if n not in sent]), draw.randrange(42), 1 << draw.randrange(8))
     if kind == "slipped" and count:
-        del feed[draw.randrange(count)]
+        at, slots = draw.randrange(count), draw.choice([1, 1, 1, 2, 5])
+        if draw.random() < 0.5:
+            del feed[at:at + slots]
+        else:
+            feed[at:at] = [draw.choice(feed) for _ in range(slots)]
     return feed
 
 

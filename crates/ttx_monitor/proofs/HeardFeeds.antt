@@ -7,14 +7,12 @@ use Rattle.std.proofs.lemmas.Grind.{flat_map-append}
 use Rattle.std.proofs.lemmas.List.{drop_more, take-append-drop}
 use Rattle.ttx_packet.specs.Slots.{IsSlot}
 use Rattle.ttx_cycle.specs.Files.{file_of}
-use Rattle.ttx_monitor.specs.Watching.{Watched}
 use Rattle.ttx_files.specs.Feeds.{IsRead}
-use Rattle.ttx_monitor.specs.Feeds.{IsBrokenBy, HearsHead, HearsOn, IsBroken, HearsAll}
-use Rattle.ttx_monitor.specs.FeedVerdicts.{IsFirstPeriod, StartsAt, BeginsAt}
-use Rattle.ttx_monitor.specs.declared.breach.Breach.{Breach}
+use Rattle.ttx_monitor.specs.Waiting.{waiting, IsBehind, IsLeft}
+use Rattle.ttx_monitor.specs.FirstPeriods.{IsFirstPeriod}
+use Rattle.ttx_monitor.specs.FeedVerdicts.{StartsAt, BeginsAt}
+use Rattle.ttx_monitor.specs.declared.ahead.Ahead.{Ahead}
 use Rattle.ttx_monitor.specs.declared.hearing.Heard.{Heard}
-use Rattle.ttx_monitor.specs.declared.hearing.Heard.TheVariants.{End, Broken}
-use Rattle.ttx_monitor.specs.declared.monitor.Monitor.{Monitor}
 use Rattle.ttx_files.specs.declared.faults.FeedFault.{FeedFault}
 
 pub file_more : (xs : List (List ℕ)) (z : List ℕ) → file_of xs ++ z ≡ file_of (xs ++ z ∷ [])
@@ -55,72 +53,21 @@ pub begins : (cycle : List (List ℕ)) (head : List (List ℕ)) (named : Option 
 begins cycle head None start bytes best period = (head, period, best)
 begins cycle head (Some named) start bytes same period = same
 
-module _ (w : Watched) (m : Monitor) where
-  -- the feed ends within its first period
-  pub ended_at_once : (old new : Option (List ℕ)) (slots : List (List ℕ)) (most rest : ℕ) → IsRead most old new slots (Some rest) →
-      HearsHead w slots m None → IfSome old (λ bytes. HearsAll w bytes m (End rest))
-  ended_at_once old new slots most rest read heard = left _ old read.2.0 (file_of slots) read.2.1 (λ ys e. record {
-    feed = slots;
-    tail = ys;
-    same = refl;
-    ended = inl (read.1, known _ read.2.0 ys e read.2.2);
-    stands = heard.0;
-    within = heard.1;
-  })
-
-  -- a slot of the first period breaks the rule
-  broken_in : (slots : List (List ℕ)) (breach : Breach) (n : ℕ) → n < length slots → All IsSlot slots →
-      IsBrokenBy w (take n slots) (get_or slots n []) m breach → (ys : List ℕ) → IsBroken w (file_of slots ++ ys) m breach
-  broken_in slots breach n lt each broken ys =
-      let parts : slots ≡ take n slots ++ get_or slots n [] ∷ drop (n + 1) slots =
-      sym (take-append-drop n slots) ∙ ap (λ l. take n slots ++ l) (drop_more slots n [] lt) in
-      let whole : file_of slots ≡ file_of (take n slots) ++ (get_or slots n [] ++ file_of (drop (n + 1) slots)) =
-      ap file_of parts ∙ flat_map-append (λ slot. slot) (take n slots) (get_or slots n [] ∷ drop (n + 1) slots) in
-      record {
-        feed = take n slots;
-        received = get_or slots n [];
-        rest = file_of (drop (n + 1) slots) ++ ys;
-        same = ap (λ l. l ++ ys) whole
-            ∙ append_assoc (file_of (take n slots)) (get_or slots n [] ++ file_of (drop (n + 1) slots)) ys
-            ∙ ap (λ l. file_of (take n slots) ++ l) (append_assoc (get_or slots n []) (file_of (drop (n + 1) slots)) ys)
-            ∙ sym (append_assoc (file_of (take n slots)) (get_or slots n []) (file_of (drop (n + 1) slots) ++ ys));
-        is_slot = each n [] lt;
-        broken = broken;
-      }
-
-  pub broken_at_once : (old new : Option (List ℕ)) (slots : List (List ℕ)) (most : ℕ) (end : Option ℕ) (breach : Breach) → All IsSlot slots →
-      IsRead most old new slots end → HearsHead w slots m (Some breach) → IfSome old (λ bytes. HearsAll w bytes m (Broken breach))
-  broken_at_once old new slots most None breach each read heard =
-      left _ old new (file_of slots) read.0 (λ ys e. broken_in slots breach heard.0 heard.1 each heard.2 ys)
-  broken_at_once old new slots most (Some rest) breach each read heard =
-      left _ old read.2.0 (file_of slots) read.2.1 (λ ys e. broken_in slots breach heard.0 heard.1 each heard.2 ys)
-
-  -- the rest of the feed is heard
-  pub heard_on : (old mid new : Option (List ℕ)) (slots : List (List ℕ)) (most : ℕ) → IsRead most old mid slots None → (heard : Heard) →
-      HearsOn w slots mid new m heard → IfSome old (λ bytes. HearsAll w bytes m heard)
-  heard_on old mid new slots most read (End rest) h =
-      let all = Consumes-trans old mid h.left (file_of slots) (file_of h.more) read.0 h.bytes in
-      left _ old h.left (file_of slots ++ file_of h.more) all (λ ys e. record {
-        feed = slots ++ h.more;
-        tail = ys;
-        same = ap (λ l. l ++ ys) (file_both slots h.more);
-        ended = elim h.ended as (λ _. ((rest < 42) × (length ys ≡ rest)) ⊎ (2 ^ 64 - 1 ≤ length (slots ++ h.more))) [
-          | inl some ↦ inl (some.0, known _ h.left ys e some.1)
-          | inr long ↦ inr (let size = length-append slots h.more in omega arith)
-        ];
-        stands = h.stands;
-        within = h.within;
-      })
-  heard_on old mid new slots most read (Broken breach) h =
-      let all = Consumes-trans old mid new (file_of slots) (file_of h.more ++ h.slot) read.0 h.bytes in
-      left _ old new (file_of slots ++ (file_of h.more ++ h.slot)) all (λ ys e. record {
-        feed = slots ++ h.more;
-        received = h.slot;
-        rest = ys;
-        same = ap (λ l. l ++ ys) (sym (append_assoc (file_of slots) (file_of h.more) h.slot) ∙ ap (λ l. l ++ h.slot) (file_both slots h.more));
-        is_slot = h.is_slot;
-        broken = h.broken;
-      })
+-- what was read first waits
+pub first_left : (most : ℕ) (old new : Option (List ℕ)) (slots : List (List ℕ)) (end : Option ℕ) → All IsSlot slots → IsRead most old new slots end →
+    (a : Ahead) → waiting a ≡ slots → a.end ≡ end → IfSome old (λ bytes. IsLeft a new bytes)
+first_left most old new slots None each read a is none = left _ old new (file_of slots) read.0 (λ ys e. record {
+  behind = ys;
+  same = ap (λ l. file_of l ++ ys) (sym is);
+  each = subst (All IsSlot) (sym is) each;
+  is_behind = subst (λ o. IsBehind o new ys) (sym none) e;
+})
+first_left most old new slots (Some rest) each read a is some = left _ old read.2.0 (file_of slots) read.2.1 (λ ys e. record {
+  behind = ys;
+  same = ap (λ l. file_of l ++ ys) (sym is);
+  each = subst (All IsSlot) (sym is) each;
+  is_behind = subst (λ o. IsBehind o new ys) (sym some) (read.1, known _ read.2.0 ys e read.2.2);
+})
 
 pub if_both : (P Q R : List ℕ → Type 0) (o : Option (List ℕ)) → ((x : List ℕ) → P x → Q x → R x) → IfSome o P → IfSome o Q → IfSome o R
 if_both P Q R None f p q = tt

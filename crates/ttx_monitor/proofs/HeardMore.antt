@@ -1,13 +1,8 @@
--- What a monitor makes of one more slot of a feed.
-use Rattle.std.proofs.Common.{◌≡◌, ℕ, ◌+◌, ◌-◌, ◌^◌, ◌<◌, ◌≤◌, List, [], ◌∷◌, ◌++◌, length, get_or, take, Option, Some, None, IfSome, true}
-use Rattle.std.specs.Option.{is_some}
-use Rattle.std.proofs.lemmas.Bool.{both_ways}
-use Rattle.std.proofs.Common.{refl, sym, ap, ◌∙◌, subst, inl, inr, arith, append-nil, append_assoc, length-append}
-use Rattle.std.specs.Io.KnownBytes.{Consumes}
-use Rattle.std.proofs.KnownBytes.{Consumes-nil, Consumes-trans}
-use Rattle.std.proofs.lemmas.List.{take_more, take_all}
+-- What a monitor makes of one more slot of a feed that has stayed within the rule.
+use Rattle.std.proofs.Common.{◌≡◌, ◌⊎◌, ℕ, ◌+◌, ◌-◌, ◌^◌, ◌<◌, ◌≤◌, List, [], ◌∷◌, ◌++◌, length, Option, Some, None, refl, sym, ap, ◌∙◌, subst, inl, inr, arith}
+use Rattle.std.proofs.Common.{append_assoc}
+use Rattle.std.proofs.lemmas.List.{length_push}
 use Rattle.ttx_packet.specs.Laws.{RowsAreNumbered}
-use Rattle.ttx_packet.specs.Slots.{IsSlot}
 use Rattle.ttx_cycle.specs.Cycles.{slots_of-IsCycle}
 use Rattle.ttx_page.specs.Laws.{EachSlotTurns, StreamsMove}
 use Rattle.ttx_counter.specs.Streaks.{StreaksDecide}
@@ -15,98 +10,124 @@ use Rattle.ttx_cycle.specs.Files.{file_of}
 use Rattle.ttx_monitor.specs.Watching.{Watched, IsWithin}
 use Rattle.ttx_monitor.specs.Breaches.{IsHeard}
 use Rattle.ttx_monitor.specs.Standing.{Stands}
-use Rattle.ttx_monitor.specs.Feeds.{HearsHead, IsHeardOut, IsHeardTo}
+use Rattle.ttx_monitor.specs.Waiting.{IsLeft}
+use Rattle.ttx_monitor.specs.Events.{moved, since, IsShift}
+use Rattle.ttx_monitor.specs.Stepping.{IsNext}
+use Rattle.ttx_monitor.specs.Feeds.{IsWhole, IsBroken, IsSlipped, IsEnding, IsOver, HearsAll}
+use Rattle.ttx_monitor.specs.declared.ahead.Ahead.{Ahead}
 use Rattle.ttx_monitor.specs.declared.breach.Breach.{Breach}
+use Rattle.ttx_monitor.specs.declared.event.Event.{Event}
+use Rattle.ttx_monitor.specs.declared.hearing.Heard.{Heard}
+use Rattle.ttx_monitor.specs.declared.hearing.Heard.TheVariants.{End, Broken, Slipped}
 use Rattle.ttx_monitor.specs.declared.monitor.Monitor.{Monitor}
 use Rattle.ttx_monitor.proofs.FirstState.{first_kept}
 use Rattle.ttx_monitor.proofs.HeardFeeds.{file_more}
 use Rattle.ttx_monitor.proofs.KeptIsWithin.{kept_within}
-
--- of some slots the first n are heard, and within the rule
-abbrev pub HeardTo : Watched → List (List ℕ) → Monitor → ℕ → Type 0
-HeardTo w slots m n = Stands m w (take n slots) × IsWithin w (take n slots)
-
-module _ (w : Watched) (slots : List (List ℕ)) (n : ℕ) (lt : n < length slots) (old new : Monitor) where
-  next_one : take n slots ++ get_or slots n [] ∷ [] ≡ take (n + 1) slots
-  next_one = sym (take_more slots n [] lt)
-
-  pub one_within : HeardTo w slots old n → Stands new w (take n slots ++ get_or slots n [] ∷ []) → IsWithin w (take n slots ++ get_or slots n [] ∷ []) →
-      HeardTo w slots new (n + 1)
-  one_within h stands within = (subst (Stands new w) next_one stands, subst (IsWithin w) next_one within)
-
-  pub one_broken : (breach : Breach) → HeardTo w slots old n → Stands new w (take n slots ++ get_or slots n [] ∷ []) →
-      IsHeard w (take n slots) (get_or slots n []) (Some breach) → HearsHead w slots new (Some breach)
-  one_broken breach h stands how = (n, lt, record { within = h.1; how = how; stands = stands })
-
-  pub head_broken : (o : Option Breach) → is_some o ≡ true → HeardTo w slots old n → Stands new w (take n slots ++ get_or slots n [] ∷ []) →
-      IsHeard w (take n slots) (get_or slots n []) o → HearsHead w slots new o
-  head_broken None e h stands how = absurd (both_ways _ refl e)
-  head_broken (Some breach) e h stands how = one_broken breach h stands how
 
 pub nothing_within : RowsAreNumbered → EachSlotTurns → StreamsMove → StreaksDecide → (w : Watched) (m : Monitor) → Stands m w [] → IsWithin w []
 nothing_within numbers turns move decide w m st =
     let cyc : 0 < length w.cycle = subst (λ l. 0 < length l) st.cycle (slots_of-IsCycle m.cycle.now).some in
     kept_within numbers turns move decide w cyc st.some m.table.items st.table [] (first_kept w m.table.items st.some)
 
-pub all_heard : (w : Watched) (slots : List (List ℕ)) (m : Monitor) (n : ℕ) → n ≡ length slots → HeardTo w slots m n → HearsHead w slots m None
-all_heard w slots m n e h =
-    let whole : take n slots ≡ slots = take_all n slots (omega arith) in
-    (subst (Stands m w) whole h.0, subst (IsWithin w) whole h.1)
+-- so many slots of a feed are heard, and within the rule
+pub record HeardSo (w : Watched) (bytes : List ℕ) (m : Monitor) (a : Ahead) (remaining : Option (List ℕ)) (count : ℕ) : Type 0 where
+  pub feed : List (List ℕ)
+  pub rest : List ℕ
+  pub size : length feed ≡ count
+  pub same : bytes ≡ file_of feed ++ rest
+  pub stands : Stands m w feed
+  pub within : IsWithin w feed
+  pub left : IsLeft a remaining rest
 
--- so many slots more of a feed are heard, and within the rule
-pub record HeardSo (w : Watched) (slots : List (List ℕ)) (old new : Option (List ℕ)) (m : Monitor) (count : ℕ) : Type 0 where
-  pub more : List (List ℕ)
-  pub size : length more ≡ count
-  pub bytes : Consumes old new (file_of more)
-  pub stands : Stands m w (slots ++ more)
-  pub within : IsWithin w (slots ++ more)
-
-pub none_heard : (w : Watched) (slots : List (List ℕ)) (known : Option (List ℕ)) (m : Monitor) → Stands m w slots → IsWithin w slots →
-    HeardSo w slots known known m 0
-none_heard w slots known m stands within = record {
-  more = [];
-  size = refl;
-  bytes = Consumes-nil known;
-  stands = subst (Stands m w) (sym (append-nil slots)) stands;
-  within = subst (IsWithin w) (sym (append-nil slots)) within;
-}
-
-module _ (w : Watched) (slots : List (List ℕ)) (old mid new : Option (List ℕ)) (m : Monitor) (count : ℕ) (h : HeardSo w slots old mid m count) where
-  pub so_ended : (rest : ℕ) → rest < 42 → IfSome mid (λ bytes. length bytes ≡ rest) → IsHeardOut w slots old m rest
-  so_ended rest few left = record {
-    more = h.more;
-    left = mid;
-    bytes = h.bytes;
+module _ (w : Watched) (bytes : List ℕ) (m : Monitor) (a : Ahead) (remaining : Option (List ℕ)) (count : ℕ)
+    (h : HeardSo w bytes m a remaining count) where
+  pub so_ended : (after : Monitor) (rest : ℕ) → rest < 42 → length h.rest ≡ rest → Stands after w h.feed → IsWhole w bytes after rest
+  so_ended after rest few left stands = record {
+    feed = h.feed;
+    tail = h.rest;
+    same = h.same;
     ended = inl (few, left);
-    stands = h.stands;
+    stands = stands;
     within = h.within;
   }
 
-  pub so_long : (rest : ℕ) → 2 ^ 64 - 1 ≤ count → IsHeardOut w slots old m rest
+  pub so_long : (rest : ℕ) → 2 ^ 64 - 1 ≤ count → IsWhole w bytes m rest
   so_long rest long = record {
-    more = h.more;
-    left = mid;
-    bytes = h.bytes;
+    feed = h.feed;
+    tail = h.rest;
+    same = h.same;
     ended = inr (let size = h.size in omega arith);
     stands = h.stands;
     within = h.within;
   }
 
-  module _ (slot : List ℕ) (after : Monitor) (taken : Consumes mid new slot) (stands : Stands after w ((slots ++ h.more) ++ slot ∷ [])) where
-    pub so_more : IsWithin w ((slots ++ h.more) ++ slot ∷ []) → HeardSo w slots old new after (count + 1)
-    so_more within = record {
-      more = h.more ++ slot ∷ [];
-      size = length-append h.more (slot ∷ []) ∙ ap (λ n. n + 1) h.size;
-      bytes = subst (Consumes old new) (file_more h.more slot) (Consumes-trans old mid new (file_of h.more) slot h.bytes taken);
-      stands = subst (Stands after w) (append_assoc slots h.more (slot ∷ [])) stands;
-      within = subst (IsWithin w) (append_assoc slots h.more (slot ∷ [])) within;
+  module _ (after : Monitor) (ahead : Ahead) (left : Option (List ℕ)) (e : Event) (next : IsNext w h.feed h.rest after ahead left e) where
+    same_more : bytes ≡ (file_of h.feed ++ next.slot) ++ next.after
+    same_more = h.same ∙ ap (λ l. file_of h.feed ++ l) next.same ∙ sym (append_assoc (file_of h.feed) next.slot next.after)
+
+    in_place : e.shift ≡ None → IsHeard w h.feed next.slot e.breach
+    in_place none = subst (λ s. IsHeard (moved w (length h.feed) s) (since h.feed s) next.slot e.breach) none next.event.breach
+
+    shift_here : (shift : Option ℕ) → e.shift ≡ shift → IsShift w (length h.feed) (next.slot ++ next.after) next.slot shift
+    shift_here shift is = subst (λ s. IsShift w (length h.feed) (next.slot ++ next.after) next.slot s) is
+        (subst (λ b. IsShift w (length h.feed) b next.slot e.shift) next.same next.event.shift)
+
+    pub so_more : e.shift ≡ None → e.breach ≡ None → HeardSo w bytes after ahead left (count + 1)
+    so_more none fine = record {
+      feed = h.feed ++ next.slot ∷ [];
+      rest = next.after;
+      size = length_push h.feed next.slot ∙ ap (λ n. n + 1) h.size;
+      same = same_more ∙ ap (λ l. l ++ next.after) (file_more h.feed next.slot);
+      stands = subst (λ s. Stands after (moved w (length h.feed) s) (since h.feed s ++ next.slot ∷ [])) none next.stands;
+      within = (subst (λ b. IsHeard w h.feed next.slot b) fine (in_place none)).2 h.within;
+      left = next.left;
     }
 
-    pub so_broken : (breach : Breach) → IsSlot slot → IsHeard w (slots ++ h.more) slot (Some breach) → IsHeardTo w slots old new after breach
-    so_broken breach is how = record {
-      more = h.more;
-      slot = slot;
-      is_slot = is;
-      bytes = Consumes-trans old mid new (file_of h.more) slot h.bytes taken;
-      broken = record { within = h.within; how = how; stands = stands };
+    pub so_broken : (breach : Breach) → e.shift ≡ None → e.breach ≡ Some breach → IsBroken w bytes count breach
+    so_broken breach none is = record {
+      feed = h.feed;
+      received = next.slot;
+      rest = next.after;
+      same = same_more;
+      is_slot = next.is_slot;
+      within = h.within;
+      in_place = shift_here None none;
+      how = subst (λ b. IsHeard w h.feed next.slot b) is (in_place none);
+      slot_is = sym h.size;
     }
+
+    pub so_slipped : (by : ℕ) → e.shift ≡ Some by → IsSlipped w bytes count by
+    so_slipped by is = record {
+      feed = h.feed;
+      received = next.slot;
+      rest = next.after;
+      same = same_more;
+      is_slot = next.is_slot;
+      within = h.within;
+      how = shift_here (Some by) is;
+      slot_is = sym h.size;
+    }
+
+    over : (shift : Option ℕ) → Stands after (moved w (length h.feed) shift) (since h.feed shift ++ next.slot ∷ []) → IsOver after w.cycle
+    over None stands = (w, h.feed ++ next.slot ∷ [], stands, refl)
+    over (Some by) stands = (moved w (length h.feed) (Some by), next.slot ∷ [], stands, refl)
+
+    pub so_ending : (heard : Heard) → IsEnding count e heard → HearsAll w bytes after heard
+    so_ending (End rest) is = absurd is
+    so_ending (Broken slot breach) is = subst (λ n. IsBroken w bytes n breach) (sym is.0) (so_broken breach is.1 is.2)
+    so_ending (Slipped slot by) is = (
+      subst (λ n. IsSlipped w bytes n by) (sym is.0) (so_slipped by is.1),
+      over e.shift next.stands,
+    )
+
+pub none_heard : RowsAreNumbered → EachSlotTurns → StreamsMove → StreaksDecide → (w : Watched) (bytes : List ℕ) (m : Monitor) (a : Ahead)
+    (remaining : Option (List ℕ)) → Stands m w [] → IsLeft a remaining bytes → HeardSo w bytes m a remaining 0
+none_heard numbers turns move decide w bytes m a remaining stands left = record {
+  feed = [];
+  rest = bytes;
+  size = refl;
+  same = refl;
+  stands = stands;
+  within = nothing_within numbers turns move decide w m stands;
+  left = left;
+}

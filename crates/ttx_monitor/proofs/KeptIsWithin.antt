@@ -17,18 +17,19 @@ use Rattle.ttx_page.specs.declared.item.Item.{Item}
 use Rattle.ttx_page.specs.declared.item.Item.TheVariants.{Head as TheHead, Row as TheRow, Links as TheLinks}
 use Rattle.ttx_page.specs.Streams.{Stream, repeated, carries, IsTransmission, AreSuccessive}
 use Rattle.ttx_page.specs.Receptions.{IsTextByte, IsRight, OneIs}
-use Rattle.ttx_counter.specs.Streaks.{IsInside, IsRightAmong, StreaksDecide}
+use Rattle.ttx_counter.specs.Streaks.{streak_to, IsInside, IsRightAmong, StreaksDecide}
 use Rattle.ttx_counter.specs.Listening.{item_of}
 use Rattle.ttx_counter.specs.Cells.{is_text}
-use Rattle.ttx_monitor.specs.Watching.{Watched, sent_at, KeepsByte, IsWithin}
+use Rattle.ttx_monitor.specs.Watching.{Watched, sent_at, KeepsByte, IsWithin, wrong_at}
 use Rattle.ttx_monitor.specs.Places.{IsTable}
-use Rattle.ttx_monitor.specs.Streaks.{sends_at, wrong_at, streak, IsNoted}
-use Rattle.ttx_monitor.specs.Breaches.{IsRepeatedWrong}
+use Rattle.ttx_monitor.specs.Streaks.{sends_at, streak, IsNoted}
+use Rattle.ttx_monitor.specs.Breaches.{IsRepeatedWrong, IsUnrepeated}
+use Rattle.ttx_monitor.specs.MostWrong.{SendsItem}
 use Rattle.ttx_monitor.specs.Standing.{IsKept}
 use Rattle.ttx_monitor.specs.declared.places.RowPlace.{RowPlace}
 use Rattle.ttx_monitor.specs.declared.breach.TextByte.{TextByte}
 use Rattle.ttx_counter.proofs.SentRows.{IsNumbered, numbered}
-use Rattle.ttx_monitor.proofs.FeedStreaks.{same, unsent}
+use Rattle.ttx_monitor.proofs.FeedStreaks.{same, unsent, sent_ext}
 
 one_of : (P Q : ℤ → Type 0) (list : List ℤ) (R : ℤ → Type 0) → AllByRecursion R list → ((j : ℤ) → R j → P j → Q j) → OneIs P list → OneIs Q list
 one_of P Q [] R a f h = h
@@ -97,6 +98,19 @@ module _ (numbers : RowsAreNumbered) (turns : EachSlotTurns) (move : StreamsMove
         (λ h. subst (IsTransmission (repeated w.cycle) p.id (item_of r)) e (moved.0 (here.0 h))),
         (λ a. here.1 (moved.1 (subst (IsTransmission (repeated w.cycle) p.id (item_of r)) (sym e) a))),
       )
+
+  -- each test that says which slots send the row counts the streaks of the table
+  pub streak_as : (feed : List (List ℕ)) (i r x : ℕ) (p : Page) → slice_get w.pages i ≡ Some p → r < 25 → (sent : ℕ → Bool) →
+      SendsItem w feed p r sent → (n : ℕ) → n ≤ length feed → streak_to sent (wrong_at w feed x) n ≡ streak w table feed i r x n
+  streak_as feed i r x p is low sent sends n le =
+      sent_ext sent (sends_at w table i r) (wrong_at w feed x) n (λ m lt. same_test (sent m) (sends_at w table i r m)
+      (sends m (omega arith)) (told i r p is low m))
+    where
+      same_test : {T : Type 0} (a b : Bool) → (a ≡ true) ↔ T → (b ≡ true) ↔ T → a ≡ b
+      same_test true true f g = refl
+      same_test true false f g = sym (g.1 (f.0 refl))
+      same_test false true f g = f.1 (g.0 refl)
+      same_test false false f g = refl
 
   module _ (feed : List (List ℕ)) where
     right_at : (x m : ℕ) → wrong_at w feed x m ≡ false → get_or (get_or feed m []) x 0 ≡ get_or (sent_at w m) x 0
@@ -211,6 +225,13 @@ module _ (numbers : RowsAreNumbered) (turns : EachSlotTurns) (move : StreamsMove
     none_reached k b r = absurd (let below = k.below b.page b.row b.byte (length feed + 1) r.page r.row r.text
         (let g = length_push feed slot in omega arith) in let long = r.long in omega arith)
 
+    pub unrepeated : IsNoted w table (feed ++ slot ∷ []) (length feed) None → IsUnrepeated w feed slot
+    unrepeated none i r x p is low text sends_it sent sends =
+        let g = length_push feed slot in
+        let e = streak_as (feed ++ slot ∷ []) i r x p is low sent sends (length (feed ++ slot ∷ [])) (omega arith) in
+        let a = ap (streak w table (feed ++ slot ∷ []) i r x) g in
+        let l = none i r x (slice_get_within w.pages i p is) low text ((told i r p is low (length feed)).1 sends_it) in omega arith
+
     pub repeats : (b : TextByte) → IsNoted w table (feed ++ slot ∷ []) (length feed) (Some b) → IsRepeatedWrong w feed slot b
     repeats b r = record {
       page = r.page;
@@ -219,6 +240,16 @@ module _ (numbers : RowsAreNumbered) (turns : EachSlotTurns) (move : StreamsMove
       wrong = λ e. both_ways _ (is_right (feed ++ slot ∷ []) b.byte (length feed)
           (ap (λ z. get_or z b.byte 0) (get_or_push feed slot [] (length feed) refl) ∙ e)) r.wrong;
       sent = λ p is. (told b.page b.row p is r.row (length feed)).0 r.sent;
+      long = λ p is sent sends.
+          let g = length_push feed slot in
+          let e = streak_as (feed ++ slot ∷ []) b.page b.row b.byte p is r.row sent sends (length (feed ++ slot ∷ [])) (omega arith) in
+          let a = ap (streak w table (feed ++ slot ∷ []) b.page b.row b.byte) g in
+          let l = r.long in omega arith;
+      shorter = λ p is y lt text sent sends.
+          let g = length_push feed slot in
+          let e = streak_as (feed ++ slot ∷ []) b.page b.row y p is r.row sent sends (length (feed ++ slot ∷ [])) (omega arith) in
+          let a = ap (streak w table (feed ++ slot ∷ []) b.page b.row y) g in
+          let l = r.first y lt text in omega arith;
       broken = λ p is keeps. absurd (let below = (byte_decides (feed ++ slot ∷ []) b.page b.row b.byte p is r.row).1 keeps (length feed + 1)
           (let g = length_push feed slot in omega arith) in let long = r.long in omega arith);
       first = λ within p is y lt text. (byte_decides (feed ++ slot ∷ []) b.page b.row y p is r.row).0

@@ -10,3 +10,5 @@ mod WrongBytes
 mod HeardFeeds
 mod HeardMore
 mod MisfitCounts
+mod WaitingSlots
+mod SteppedFeeds

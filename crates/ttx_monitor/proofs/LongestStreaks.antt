@@ -12,7 +12,9 @@ use Rattle.ttx_monitor.specs.Streaks.{place_at, sends_at, streak, base, AreStrea
 use Rattle.ttx_monitor.specs.Totals.{with_repeat, IsLongestStreak}
 use Rattle.ttx_monitor.specs.declared.places.RowPlace.{RowPlace}
 use Rattle.ttx_monitor.proofs.FeedStreaks.{same, unsent, right, latest, grown, owned}
-use Rattle.ttx_monitor.proofs.KeptIsWithin.{kept_within, within_kept}
+use Rattle.ttx_monitor.proofs.KeptIsWithin.{kept_within, within_kept, streak_as, page_here}
+use Rattle.ttx_monitor.specs.MostWrong.{HasWrong, IsMostWrong}
+use Rattle.std.proofs.lemmas.Option.{slice_get_within}
 
 module _ (w : Watched) (table : List (Option RowPlace)) (feed : List (List ℕ)) (slot : List ℕ) where
   abbrev n : ℕ
@@ -151,3 +153,30 @@ module _ (numbers : RowsAreNumbered) (turns : EachSlotTurns) (move : StreamsMove
               absurd (omega arith)
         ];
       }
+
+  -- the same in public words
+  pub most_wrong : (longest : ℕ) → IsLongest w table feed longest → IsMostWrong w feed longest
+  most_wrong longest l = record {
+    each = λ i r x n p sent is low text sends le.
+        let e = streak_as numbers turns move decide w cyc some table t feed i r x p is low sent sends n le in
+        let h = l.each i r x n (slice_get_within w.pages i p is) low text le in omega arith;
+    some = elim l.some as (λ _. (longest ≡ 0) ⊎ HasWrong w feed longest) [
+      | inl z ↦ inl z
+      | inr h ↦
+          let here = page_here w.pages h.page h.listed in
+          inr (record {
+            index = h.page;
+            page = here.0;
+            row = h.row;
+            byte = h.byte;
+            slot = h.slot;
+            listed = here.1;
+            low = h.low;
+            text = h.text;
+            inside = h.inside;
+            long = λ sent sends.
+                let e = streak_as numbers turns move decide w cyc some table t feed h.page h.row h.byte here.0 here.1 h.low sent sends h.slot h.inside in
+                let g = h.long in omega arith;
+          })
+    ];
+  }

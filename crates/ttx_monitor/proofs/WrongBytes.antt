@@ -5,7 +5,9 @@ use Rattle.std.proofs.lemmas.Bool.{cases_Bool}
 use Rattle.std.proofs.lemmas.List.{get_or_append_left, get_or_push}
 use Rattle.ttx_packet.specs.Slots.{kind_of}
 use Rattle.ttx_monitor.specs.Watching.{Watched, sent_at}
-use Rattle.ttx_monitor.specs.Totals.{compared_bytes, count_to, is_wrong, wrong_in, wrong_bytes}
+use Rattle.ttx_monitor.specs.Totals.{compared_bytes, count_to, sum_to, is_wrong, wrong_in, wrong_bits_at, wrong_bytes}
+use Rattle.std.specs.Int.Bits.{xor_self}
+use Rattle.ttx_code.specs.Words.{distance, ones}
 
 pub none_counted : (test : ℕ → Bool) (n : ℕ) → ((x : ℕ) → test x ≡ false) → count_to test n ≡ 0
 unfolding count_to
@@ -60,3 +62,25 @@ module _ (sent received : List ℕ) (x : ℕ) where
 
   pub same_at : get_or received x 0 ≡ get_or sent x 0 → is_wrong sent received x ≡ false
   same_at e = ap not (eq-eqb (get_or received x 0) (get_or sent x 0) e)
+
+-- sums
+pub none_summed : (of : ℕ → ℕ) (n : ℕ) → ((x : ℕ) → of x ≡ 0) → sum_to of n ≡ 0
+unfolding sum_to
+none_summed of zero f = refl
+none_summed of (suc n) f = let a = none_summed of n f in let b = f n in omega arith
+
+pub first_sum : (of : ℕ → ℕ) → sum_to of 0 ≡ 0
+unfolding sum_to
+first_sum of = refl
+
+pub next_sum : (of : ℕ → ℕ) (n : ℕ) → sum_to of (n + 1) ≡ sum_to of n + of n
+unfolding sum_to
+next_sum of n = let e : n + 1 ≡ suc n = omega arith in ap (sum_to of) e
+
+no_bits : (a : ℕ) → distance a a ≡ 0
+unfolding distance ones
+no_bits a = rw xor_self refl
+
+-- no bit of a slot that is received as it was sent
+pub no_bits_in : (sent received : List ℕ) → received ≡ sent → (n : ℕ) → sum_to (wrong_bits_at sent received) n ≡ 0
+no_bits_in sent received e n = none_summed (wrong_bits_at sent received) n (λ x. ap (λ r. distance (get_or sent x 0) (get_or r x 0)) e ∙ no_bits (get_or sent x 0))

@@ -5,9 +5,10 @@
 --   page_text, row_text     the id of a page of a list; a row, 0 for the header
 --   way_text                how a slot breaks the rule
 --   repeat_text             a byte that was wrong too often
+--   slipped_text, shift_text, shifted_text     where the feed has slipped, and by how many slots of a cycle
 --   feed_text               the text of a verdict
 --   IsFeedTold              the verdict on a feed, and its text
-use Rattle.std.specs.Prelude.{◌≡◌, ℕ, zero, suc, List, [], ◌∷◌, ◌++◌, codes, slice_get, Option, Some, None}
+use Rattle.std.specs.Prelude.{◌≡◌, ℕ, zero, suc, ◌-◌, ◌*◌, nat_lt, if◌then◌else◌, List, [], ◌∷◌, ◌++◌, codes, slice_get, Option, Some, None}
 use Rattle.std.specs.Fmt.{decimal}
 use Rattle.ttx_digits.specs.PageIds.{id_text}
 use Rattle.ttx_page.specs.Pages.{Page}
@@ -17,7 +18,7 @@ use Rattle.ttx_monitor.specs.declared.breach.TextByte.{TextByte}
 use Rattle.ttx_monitor.specs.declared.breach.Breach.{Breach}
 use Rattle.ttx_monitor.specs.declared.breach.Breach.TheVariants.{Unasked, Lost, Bits, Repeated}
 use Rattle.ttx_monitor.specs.declared.verdict.FeedVerdict.{FeedVerdict}
-use Rattle.ttx_monitor.specs.declared.verdict.FeedVerdict.TheVariants.{Yes, No}
+use Rattle.ttx_monitor.specs.declared.verdict.FeedVerdict.TheVariants.{Yes, No, Shifted}
 
 abbrev pub start_text : ℕ → List ℕ
 start_text start = codes " start " ++ decimal start ++ 10 ∷ []
@@ -51,9 +52,20 @@ way_text pages slot Lost = codes "no slot " ++ decimal slot ++ codes " lost"
 way_text pages slot (Bits x) = codes "no slot " ++ decimal slot ++ codes " byte " ++ decimal x
 way_text pages slot (Repeated t) = repeat_text pages t ++ codes " slot " ++ decimal slot
 
+abbrev pub slipped_text : ℕ → List ℕ
+slipped_text slot = codes "no slot " ++ decimal slot ++ codes " shifted by "
+
+-- J slots were lost, or -J inserted, as what is less
+abbrev pub shift_text : ℕ → ℕ → List ℕ
+shift_text count by = if nat_lt count (2 * by) then codes "-" ++ decimal (count - by) else decimal by
+
+abbrev pub shifted_text : ℕ → ℕ → ℕ → List ℕ
+shifted_text count slot by = slipped_text slot ++ shift_text count by
+
 abbrev pub feed_text : List Page → FeedVerdict → List ℕ
 feed_text pages (Yes start slots wrong streak rest) = yes_text start slots wrong streak ++ rest_text rest
 feed_text pages (No start slot breach) = way_text pages slot breach ++ start_text start
+feed_text pages (Shifted start slot by count) = shifted_text count slot by ++ start_text start
 
 -- the verdict on a feed of these bytes, and its text
 pub record IsFeedTold (cycle : List (List ℕ)) (pages : List Page) (c : Certificate) (named : Option ℕ) (bytes : List ℕ) (verdict : FeedVerdict)

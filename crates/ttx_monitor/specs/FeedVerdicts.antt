@@ -1,9 +1,7 @@
 -- What is said of a feed (profile).
 --
---   IsFirstPeriod           the slots of the feed's first period, or of all of it if that is shorter
 --   BeginsAt                the slot of the cycle with which the feed begins: the one that is named, or the one that is found
 --   IsHeardWhole            the feed is within the error rule; what is counted of it, and who sees each page
---   IsHeardBroken           the first slot that breaks the rule, and how
 --   start_of, IsVerdictOf   the start that a verdict names, and what it says
 --   StartsAt                the start by the first slots of a feed
 --   IsFeedVerdict           the verdict on a feed of these bytes
@@ -13,20 +11,13 @@ use Rattle.ttx_page.specs.Pages.{Page}
 use Rattle.ttx_cycle.specs.Files.{file_of}
 use Rattle.ttx_witness.specs.Coverage.{Certificate, Accepts, limit}
 use Rattle.ttx_monitor.specs.Watching.{watched, IsWithin}
-use Rattle.ttx_monitor.specs.Breaches.{IsHeard}
+use Rattle.ttx_monitor.specs.Feeds.{IsBroken, IsSlipped}
+use Rattle.ttx_monitor.specs.FirstPeriods.{IsFirstPeriod}
 use Rattle.ttx_monitor.specs.Laws.{IsSeenIn}
 use Rattle.ttx_monitor.specs.Starting.{IsBestStart}
 use Rattle.ttx_monitor.specs.Totals.{wrong_bytes, IsLongestStreak}
-use Rattle.ttx_monitor.specs.declared.breach.Breach.{Breach}
 use Rattle.ttx_monitor.specs.declared.verdict.FeedVerdict.{FeedVerdict}
-use Rattle.ttx_monitor.specs.declared.verdict.FeedVerdict.TheVariants.{Yes, No}
-
-pub record IsFirstPeriod (cycle : List (List ℕ)) (bytes : List ℕ) (head : List (List ℕ)) : Type 0 where
-  pub rest : List ℕ
-  pub same : bytes ≡ file_of head ++ rest
-  pub each : All IsSlot head
-  pub few : length head ≤ length cycle
-  pub whole : (length head ≡ length cycle) ⊎ (length rest < 42)
+use Rattle.ttx_monitor.specs.declared.verdict.FeedVerdict.TheVariants.{Yes, No, Shifted}
 
 -- by the first slots of the feed
 abbrev pub StartsAt : List (List ℕ) → List (List ℕ) → Option ℕ → ℕ → Type 0
@@ -51,26 +42,17 @@ pub record IsHeardWhole (cycle : List (List ℕ)) (pages : List Page) (c : Certi
   pub streak_is : IsLongestStreak (watched cycle pages c.repeat start) feed streak
   pub seen : Accepts cycle pages c → limit c ≤ length feed → IsSeenIn (watched cycle pages c.repeat start) feed c
 
--- the slots before are within the rule, and this one breaks it
-pub record IsHeardBroken (cycle : List (List ℕ)) (pages : List Page) (c : Certificate) (bytes : List ℕ) (start slot : ℕ) (breach : Breach)
-    : Type 0 where
-  pub feed : List (List ℕ)
-  pub received : List ℕ
-  pub rest : List ℕ
-  pub same : bytes ≡ (file_of feed ++ received) ++ rest
-  pub is_slot : IsSlot received
-  pub within : IsWithin (watched cycle pages c.repeat start) feed
-  pub how : IsHeard (watched cycle pages c.repeat start) feed received (Some breach)
-  pub slot_is : slot ≡ min (length feed) (2 ^ 64 - 2)
-
 abbrev pub start_of : FeedVerdict → ℕ
 start_of (Yes start slots wrong streak rest) = start
 start_of (No start slot breach) = start
+start_of (Shifted start slot by count) = start
 
 -- what is said, for the start that it names
 abbrev pub IsVerdictOf : List (List ℕ) → List Page → Certificate → List ℕ → FeedVerdict → Type 0
 IsVerdictOf cycle pages c bytes (Yes start slots wrong streak rest) = IsHeardWhole cycle pages c bytes start slots wrong streak rest
-IsVerdictOf cycle pages c bytes (No start slot breach) = IsHeardBroken cycle pages c bytes start slot breach
+IsVerdictOf cycle pages c bytes (No start slot breach) = IsBroken (watched cycle pages c.repeat start) bytes slot breach
+IsVerdictOf cycle pages c bytes (Shifted start slot by count) =
+    IsSlipped (watched cycle pages c.repeat start) bytes slot by × (count ≡ length cycle)
 
 pub record IsFeedVerdict (cycle : List (List ℕ)) (pages : List Page) (c : Certificate) (named : Option ℕ) (bytes : List ℕ) (verdict : FeedVerdict)
     : Type 0 where

@@ -1,50 +1,22 @@
 -- A feed that is read slot by slot and heard until it ends or breaks the error rule (profile).
 --
---   IsBrokenBy              after slots within the rule, this slot breaks it
---   HearsHead, HearsOn      what a monitor makes of some slots; of the rest of a feed
---   HearsAll                what it makes of a feed of these bytes
-use Rattle.std.specs.Prelude.{◌≡◌, ◌⊎◌, ℕ, ◌-◌, ◌^◌, ◌<◌, ◌≤◌, List, [], ◌∷◌, ◌++◌, length, take, slice_index_or, Option, Some, None, IfSome}
-use Rattle.std.specs.Io.KnownBytes.{Consumes}
+--   IsWhole, IsBroken, IsSlipped    how the hearing of a feed ends
+--   IsEnding, IsOver        what is made of a slot ends the hearing; which cycle a monitor watches
+--   HearsAll                what a monitor makes of a feed of these bytes
+use Rattle.std.specs.Prelude.{◌≡◌, ◌⊎◌, ℕ, ◌-◌, ◌^◌, ◌<◌, ◌≤◌, List, [], ◌∷◌, ◌++◌, length, take, slice_index_or, ⊤, Option, Some, None, IfSome, Result, Ok, Err}
 use Rattle.ttx_packet.specs.Slots.{IsSlot}
 use Rattle.ttx_cycle.specs.Files.{file_of}
 use Rattle.ttx_monitor.specs.Watching.{Watched, IsWithin}
 use Rattle.ttx_monitor.specs.Breaches.{IsHeard}
+use Rattle.ttx_monitor.specs.Events.{IsShift}
 use Rattle.ttx_monitor.specs.Standing.{Stands}
 use Rattle.ttx_monitor.specs.declared.breach.Breach.{Breach}
+use Rattle.ttx_monitor.specs.declared.event.Event.{Event}
 use Rattle.ttx_monitor.specs.declared.hearing.Heard.{Heard}
-use Rattle.ttx_monitor.specs.declared.hearing.Heard.TheVariants.{End, Broken}
+use Rattle.ttx_monitor.specs.declared.hearing.Heard.TheVariants.{End, Broken, Slipped}
 use Rattle.ttx_monitor.specs.declared.monitor.Monitor.{Monitor}
 
-pub record IsBrokenBy (w : Watched) (feed : List (List ℕ)) (slot : List ℕ) (m : Monitor) (breach : Breach) : Type 0 where
-  pub within : IsWithin w feed
-  pub how : IsHeard w feed slot (Some breach)
-  pub stands : Stands m w (feed ++ slot ∷ [])
-
-abbrev pub HearsHead : Watched → List (List ℕ) → Monitor → Option Breach → Type 0
-HearsHead w slots m None = Stands m w slots × IsWithin w slots
-HearsHead w slots m (Some breach) = (n : ℕ) × (n < length slots) × IsBrokenBy w (take n slots) (slice_index_or slots n []) m breach
-
--- the feed ended; no feed of 2 ^ 64 - 1 slots does
-pub record IsHeardOut (w : Watched) (slots : List (List ℕ)) (old : Option (List ℕ)) (m : Monitor) (rest : ℕ) : Type 0 where
-  pub more : List (List ℕ)
-  pub left : Option (List ℕ)
-  pub bytes : Consumes old left (file_of more)
-  pub ended : ((rest < 42) × IfSome left (λ bytes. length bytes ≡ rest)) ⊎ (2 ^ 64 - 1 ≤ length more)
-  pub stands : Stands m w (slots ++ more)
-  pub within : IsWithin w (slots ++ more)
-
-pub record IsHeardTo (w : Watched) (slots : List (List ℕ)) (old new : Option (List ℕ)) (m : Monitor) (breach : Breach) : Type 0 where
-  pub more : List (List ℕ)
-  pub slot : List ℕ
-  pub is_slot : IsSlot slot
-  pub bytes : Consumes old new (file_of more ++ slot)
-  pub broken : IsBrokenBy w (slots ++ more) slot m breach
-
-abbrev pub HearsOn : Watched → List (List ℕ) → Option (List ℕ) → Option (List ℕ) → Monitor → Heard → Type 0
-HearsOn w slots old new m (End rest) = IsHeardOut w slots old m rest
-HearsOn w slots old new m (Broken breach) = IsHeardTo w slots old new m breach
-
--- the feed has these slots, and then less than the bytes of a slot
+-- the feed has these slots, and then less than the bytes of a slot (no feed of 2 ^ 64 - 1 slots has an end)
 pub record IsWhole (w : Watched) (bytes : List ℕ) (m : Monitor) (rest : ℕ) : Type 0 where
   pub feed : List (List ℕ)
   pub tail : List ℕ
@@ -53,14 +25,40 @@ pub record IsWhole (w : Watched) (bytes : List ℕ) (m : Monitor) (rest : ℕ) :
   pub stands : Stands m w feed
   pub within : IsWithin w feed
 
-pub record IsBroken (w : Watched) (bytes : List ℕ) (m : Monitor) (breach : Breach) : Type 0 where
+-- the slots before are within the rule; the next one has not slipped, and breaks it
+pub record IsBroken (w : Watched) (bytes : List ℕ) (slot : ℕ) (breach : Breach) : Type 0 where
   pub feed : List (List ℕ)
   pub received : List ℕ
   pub rest : List ℕ
   pub same : bytes ≡ (file_of feed ++ received) ++ rest
   pub is_slot : IsSlot received
-  pub broken : IsBrokenBy w feed received m breach
+  pub within : IsWithin w feed
+  pub in_place : IsShift w (length feed) (received ++ rest) received None
+  pub how : IsHeard w feed received (Some breach)
+  pub slot_is : slot ≡ length feed
+
+-- the slots before are within the rule; from the next one on the feed has slipped
+pub record IsSlipped (w : Watched) (bytes : List ℕ) (slot by : ℕ) : Type 0 where
+  pub feed : List (List ℕ)
+  pub received : List ℕ
+  pub rest : List ℕ
+  pub same : bytes ≡ (file_of feed ++ received) ++ rest
+  pub is_slot : IsSlot received
+  pub within : IsWithin w feed
+  pub how : IsShift w (length feed) (received ++ rest) received (Some by)
+  pub slot_is : slot ≡ length feed
+
+-- what is made of a slot ends the hearing
+abbrev pub IsEnding : ℕ → Event → Heard → Type 0
+IsEnding slot e (End rest) = ⊥
+IsEnding slot e (Broken at breach) = (at ≡ slot) × (e.shift ≡ None) × (e.breach ≡ Some breach)
+IsEnding slot e (Slipped at by) = (at ≡ slot) × (e.shift ≡ Some by)
+
+-- a monitor of this cycle
+abbrev pub IsOver : Monitor → List (List ℕ) → Type 0
+IsOver m cycle = (w : Watched) × (feed : List (List ℕ)) × Stands m w feed × (w.cycle ≡ cycle)
 
 abbrev pub HearsAll : Watched → List ℕ → Monitor → Heard → Type 0
 HearsAll w bytes m (End rest) = IsWhole w bytes m rest
-HearsAll w bytes m (Broken breach) = IsBroken w bytes m breach
+HearsAll w bytes m (Broken slot breach) = IsBroken w bytes slot breach
+HearsAll w bytes m (Slipped slot by) = IsSlipped w bytes slot by × IsOver m w.cycle

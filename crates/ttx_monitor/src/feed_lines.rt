@@ -2,7 +2,7 @@
 
 ghost use Rattle.std.specs.Prelude.{◌≡◌, ◌++◌, IfOk, OnOk, map, string_bytes};
 ghost use Rattle.ttx_page.specs.Views.{page_of};
-ghost use Rattle.ttx_monitor.specs.FeedLines.{start_text, rest_text, yes_text, page_text, row_text, repeat_text, way_text, feed_text};
+ghost use Rattle.ttx_monitor.specs.FeedLines.{start_text, rest_text, yes_text, page_text, row_text, repeat_text, way_text, slipped_text, shift_text, shifted_text, feed_text};
 
 use crate::breach::{Breach, TextByte};
 use crate::verdict::FeedVerdict;
@@ -90,6 +90,32 @@ fn push_way(text: &mut String, pages: &[Page], slot: u64, breach: Breach) -> Res
     }
 }
 
+// Appends the slot at which a feed has slipped.
+fn push_slipped(text: &mut String, slot: u64) -> Result<(), AllocError>
+    ensures { OnOk result (string_bytes text.new ≡ string_bytes text.old ++ slipped_text slot) }
+{
+    write!(text, "no slot {slot} shifted by ")
+}
+
+// Appends by how many slots of a cycle of `count` it has slipped.
+fn push_shift(text: &mut String, count: usize, by: usize) -> Result<(), AllocError>
+    ensures { OnOk result (string_bytes text.new ≡ string_bytes text.old ++ shift_text count by) }
+{
+    let back = count.saturating_sub(by);
+    if back < by {
+        return write!(text, "-{back}");
+    }
+    write!(text, "{by}")
+}
+
+// Appends where a feed has slipped, and by how many slots.
+fn push_shifted(text: &mut String, count: usize, slot: u64, by: usize) -> Result<(), AllocError>
+    ensures { OnOk result (string_bytes text.new ≡ string_bytes text.old ++ shifted_text count slot by) }
+{
+    push_slipped(text, slot)?;
+    push_shift(text, count, by)
+}
+
 // Appends the text of a verdict.
 fn push_verdict(text: &mut String, pages: &[Page], verdict: FeedVerdict) -> Result<(), AllocError>
     ensures { OnOk result (string_bytes text.new ≡ string_bytes text.old ++ feed_text (map page_of pages.now) verdict) }
@@ -113,12 +139,21 @@ fn push_verdict(text: &mut String, pages: &[Page], verdict: FeedVerdict) -> Resu
             push_way(text, pages, slot, breach)?;
             push_start(text, start)
         }
+        FeedVerdict::Shifted {
+            start,
+            slot,
+            by,
+            count,
+        } => {
+            push_shifted(text, count, slot, by)?;
+            push_start(text, start)
+        }
     }
 }
 
 /// The text of a verdict on a feed: `yes start S slots N wrong B streak K`, and a line for the bytes behind the last slot; or `no slot I` and
 /// how the slot breaks the rule (`byte X` with two wrong bits, `lost`, `unlike` for something in the place of an empty line), or
-/// `no repeat PAGE ITEM byte X slot I`, each with the start. Each line ends with the byte 0A. `Err` if memory runs out.
+/// `no repeat PAGE ITEM byte X slot I`, or `no slot I shifted by J`, each with the start. Each line ends with the byte 0A. `Err` if memory runs out.
 pub fn feed_text(alloc: Global, pages: &[Page], verdict: FeedVerdict) -> Result<String, NoMemory>
     ensures { IfOk result (λ text. string_bytes text ≡ feed_text (map page_of pages.now) verdict) }
 {

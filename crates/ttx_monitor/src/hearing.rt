@@ -1,6 +1,6 @@
 //! Hears a feed to its end, or to the first slot that breaks the error rule.
 
-ghost use Rattle.std.specs.Prelude.{◌≡◌, ◌≤◌, ◌∷◌, [], ℕ, List, Option, IfOk, IfSome, length};
+ghost use Rattle.std.specs.Prelude.{◌≡◌, ◌≤◌, ◌∷◌, [], ℕ, List, None, IfOk, IfSome, MatchOption, length};
 ghost use Rattle.std.specs.List.{All};
 ghost use Rattle.ttx_packet.specs.Slots.{IsSlot};
 ghost use Rattle.ttx_page.specs.Pages.{Page};
@@ -11,88 +11,76 @@ ghost use Rattle.ttx_cycle.specs.Files.{IsCycle};
 ghost use Rattle.ttx_source.specs.Services.{pages_of};
 ghost use Rattle.ttx_witness.specs.Certificates.{certificate_of};
 ghost use Rattle.ttx_witness.specs.Coverage as coverage;
-ghost use Rattle.ttx_monitor.specs.Watching.{Watched, watched, IsWithin};
-ghost use Rattle.ttx_monitor.specs.Standing.{Stands};
 ghost use Rattle.ttx_files.specs.Devices.{AtFeed, input, IsFirstFailure};
-ghost use Rattle.ttx_files.specs.Feeds.{IsReadHead, failed_at};
-ghost use Rattle.ttx_monitor.specs.Feeds.{HearsHead, HearsOn, HearsAll};
+ghost use Rattle.ttx_files.specs.Feeds.{failed_at};
+ghost use Rattle.ttx_monitor.specs.Watching.{Watched, watched};
+ghost use Rattle.ttx_monitor.specs.Standing.{Stands};
+ghost use Rattle.ttx_monitor.specs.Waiting.{IsLeft};
+ghost use Rattle.ttx_monitor.specs.Feeds.{IsEnding, HearsAll};
 ghost use Rattle.ttx_monitor.specs.FeedVerdicts.{start_of, StartsAt, IsVerdictOf, IsFeedVerdict};
 
+use crate::ahead::Ahead;
 use crate::breach::Breach;
+use crate::event::Event;
 use crate::monitor::Monitor;
 use crate::starting::find_start;
+use crate::stepping::{Step, hear_next};
 use crate::verdict::FeedVerdict;
 use std::alloc::Global;
 use std::io::Read;
 use ttx_cycle::arrays::are_slots;
 use ttx_cycle::{Counted, Cycle};
-use ttx_files::feeds::{Head, Next, next_slot, read_head};
+use ttx_files::feeds::read_head;
 use ttx_files::{FeedFault, Inputs};
 
-/// How the hearing of a feed ends: at its end, with so many bytes behind the last slot, or at the first breach.
+/// How the hearing of a feed ends: at its end, with so many bytes behind the last slot; at the first breach; or where the feed has slipped
+/// by so many slots. `slot` is the slot of the feed.
 #[derive(Clone, Copy)]
 pub enum Heard {
     End { rest: usize },
-    Broken { breach: Breach },
+    Broken { slot: u64, breach: Breach },
+    Slipped { slot: u64, by: usize },
 }
 
-// Hears the first slots of a feed. Returns the first breach.
-fn hear_head(monitor: &mut Monitor<'_>, slots: &[[u8; 42]]) -> Option<Breach>
-    ensures { (w : Watched) → Stands monitor.old w [] → HearsHead w slots.now monitor.new result }
+// How the hearing ends with what is made of this slot, if it does.
+fn ending(slot: u64, event: &Event) -> Option<Heard>
+    ensures { MatchOption result ((event.now.shift ≡ None) × (event.now.breach ≡ None)) (IsEnding slot event.now) }
+{
+    match event.shift {
+        Some(by) => Some(Heard::Slipped { slot, by }),
+        None => match event.breach {
+            Some(breach) => Some(Heard::Broken { slot, breach }),
+            None => None,
+        },
+    }
+}
+
+// Hears a feed to its end or to the first slot that breaks the rule.
+fn hear_all<R: Read>(
+    monitor: &mut Monitor<'_>,
+    ahead: &mut Ahead,
+    feed: &mut Counted<R>,
+) -> Result<Heard, FeedFault>
+    ensures heard { IfOk result (λ heard. (w : Watched) (bytes : List ℕ) → Stands monitor.old w [] →
+        IsLeft ahead.old (R.remaining (inner_of feed.old)) bytes → HearsAll w bytes monitor.new heard) }
+    ensures faults { IsFirstFailure (input AtFeed (R.remaining (inner_of feed.old)) (faults_of feed.old) (faults_of feed.new) ∷ [])
+        (failed_at result) }
 {
     ttx_packet::laws::rows_are_numbered();
     ttx_page::laws::each_slot_turns();
     ttx_page::laws::streams_move();
     ttx_counter::laws::streaks_decide();
-    for index in 0..slots.len() {
-        let breach = monitor.hear(&slots[index]);
-        if breach.is_some() {
-            return breach;
-        }
-    }
-    None
-}
-
-// Hears the rest of a feed.
-fn hear_on<R: Read>(monitor: &mut Monitor<'_>, feed: &mut Counted<R>) -> Result<Heard, FeedFault>
-    ensures heard { IfOk result (λ heard. (w : Watched) (slots : List (List ℕ)) → Stands monitor.old w slots → IsWithin w slots →
-        HearsOn w slots (R.remaining (inner_of feed.old)) (R.remaining (inner_of feed.new)) monitor.new heard) }
-    ensures faults { IsFirstFailure (input AtFeed (R.remaining (inner_of feed.old)) (faults_of feed.old) (faults_of feed.new) ∷ [])
-        (failed_at result) }
-{
-    let mut slot = [0; 42];
-    for count in 0..u64::MAX {
-        let next = next_slot(feed, &mut slot)?;
-        match next {
-            Next::Slot => {}
-            Next::End { rest } => return Ok(Heard::End { rest }),
-        }
-        if let Some(breach) = monitor.hear(&slot) {
-            return Ok(Heard::Broken { breach });
+    for slot in 0..u64::MAX {
+        let next = hear_next(monitor, ahead, feed)?;
+        let event = match next {
+            Step::Heard { event } => event,
+            Step::End { rest } => return Ok(Heard::End { rest }),
+        };
+        if let Some(heard) = ending(slot, &event) {
+            return Ok(heard);
         }
     }
     Ok(Heard::End { rest: 0 })
-}
-
-// Hears the first slots of a feed, and then the rest of it.
-fn hear_all<R: Read>(
-    monitor: &mut Monitor<'_>,
-    head: &Head,
-    feed: &mut Counted<R>,
-) -> Result<Heard, FeedFault>
-    ensures heard { IfOk result (λ heard. (w : Watched) (most : ℕ) (old : Option (List ℕ)) → Stands monitor.old w [] →
-        All IsSlot head.now.slots.items → IsReadHead most old (R.remaining (inner_of feed.old)) head.now →
-        IfSome old (λ bytes. HearsAll w bytes monitor.new heard)) }
-    ensures faults { IsFirstFailure (input AtFeed (R.remaining (inner_of feed.old)) (faults_of feed.old) (faults_of feed.new) ∷ [])
-        (failed_at result) }
-{
-    if let Some(breach) = hear_head(monitor, head.slots.as_slice()) {
-        return Ok(Heard::Broken { breach });
-    }
-    match head.end {
-        Some(rest) => Ok(Heard::End { rest }),
-        None => hear_on(monitor, feed),
-    }
 }
 
 // The slot of the cycle with which the feed begins: the one that is named, or the one that is found.
@@ -121,10 +109,16 @@ fn verdict_of(monitor: &Monitor<'_>, start: u32, heard: Heard) -> FeedVerdict
             streak: monitor.longest(),
             rest,
         },
-        Heard::Broken { breach } => FeedVerdict::No {
+        Heard::Broken { slot, breach } => FeedVerdict::No {
             start,
-            slot: monitor.count().saturating_sub(1),
+            slot,
             breach,
+        },
+        Heard::Slipped { slot, by } => FeedVerdict::Shifted {
+            start,
+            slot,
+            by,
+            count: monitor.cycle().slots().len(),
         },
     }
 }
@@ -149,6 +143,7 @@ pub(crate) fn watch<R: Read>(
     let Ok(mut monitor) = Monitor::new(alloc, cycle, service, &inputs.certificate, start) else {
         return Err(FeedFault::NoMemory);
     };
-    let heard = hear_all(&mut monitor, &head, feed)?;
+    let mut ahead = Ahead::new(head);
+    let heard = hear_all(&mut monitor, &mut ahead, feed)?;
     Ok(verdict_of(&monitor, start, heard))
 }

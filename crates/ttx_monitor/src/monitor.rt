@@ -7,7 +7,7 @@ ghost use Rattle.ttx_monitor.specs.Breaches.{first_told};
 
 use crate::breach::{Breach, TextByte};
 use crate::comparing::{slot_breach, wrong_bytes};
-use crate::counting::{Pair, longest_with, no_streaks, note};
+use crate::counting::{Pair, clear_all, longest_with, no_streaks, note};
 use crate::places::RowPlace;
 use crate::table::table_of;
 use std::alloc::Global;
@@ -90,12 +90,12 @@ fn first_told(alone: Option<Breach>, repeated: Option<TextByte>) -> Option<Breac
 }
 
 impl<'a> Monitor<'a> {
-    ghost use Rattle.std.specs.Prelude.{◌≡◌, ◌≢◌, ◌↔◌, ◌<◌, ◌≤◌, ◌-◌, ◌^◌, min, ◌++◌, ◌∷◌, [], ℕ, List, IfOk, IsTrue, None, length, map};
+    ghost use Rattle.std.specs.Prelude.{◌≡◌, ◌≢◌, ◌↔◌, ◌<◌, ◌≤◌, ◌-◌, ◌^◌, min, ◌++◌, ◌∷◌, [], ℕ, List, IfOk, IsTrue, Some, None, length, map};
     ghost use Rattle.std.specs.List.{AllPairs};
     ghost use Rattle.ttx_packet.specs.Slots.{IsSlot};
     ghost use Rattle.ttx_page.specs.Views.{page_of, ids_of};
     ghost use Rattle.ttx_cycle.specs.Cycles.{slots_of};
-    ghost use Rattle.ttx_monitor.specs.Watching.{Watched, watched, AllReceived, IsWithin};
+    ghost use Rattle.ttx_monitor.specs.Watching.{Watched, watched, sent_at, AllReceived, IsWithin};
     ghost use Rattle.ttx_witness.specs.Coverage.{Accepts, limit};
     ghost use Rattle.ttx_source.specs.Services.{pages_of};
     ghost use Rattle.ttx_witness.specs.Certificates.{certificate_of};
@@ -103,6 +103,8 @@ impl<'a> Monitor<'a> {
     ghost use Rattle.ttx_monitor.specs.Laws.{IsSeenIn};
     ghost use Rattle.ttx_monitor.specs.Breaches.{IsHeard};
     ghost use Rattle.ttx_monitor.specs.Standing.{Stands};
+    ghost use Rattle.ttx_monitor.specs.Events.{place_of, moved};
+    ghost use Rattle.ttx_monitor.specs.MostWrong.{IsMostWrong};
     ghost use Rattle.ttx_monitor.specs.Totals.{wrong_bytes, IsLongestStreak};
 
     /// A monitor for the pages of a service, with the certificate's repeat count. The feed begins with slot `start` of the cycle. Allocates all
@@ -176,6 +178,53 @@ impl<'a> Monitor<'a> {
         self.within = self.within && breach.is_none();
         self.count = one_more(self.count);
         breach
+    }
+
+    /// What was sent where the next slot of the feed is received. Allocates no memory.
+    pub fn due(&self) -> &[u8; 42]
+        ensures slot { IsSlot result.now }
+        ensures is { (w : Watched) (feed : List (List ℕ)) → Stands self.now w feed → result.now ≡ sent_at w (length feed) }
+    {
+        slot_at(self.cycle, self.at)
+    }
+
+    /// The cycle that is watched.
+    pub fn cycle(&self) -> &'a Cycle
+        ensures { (w : Watched) (feed : List (List ℕ)) → Stands self.now w feed → slots_of result.now ≡ w.cycle }
+    {
+        self.cycle
+    }
+
+    /// The place in the cycle of the next slot of the feed. Allocates no memory.
+    pub fn place(&self) -> usize
+        ensures { (w : Watched) (feed : List (List ℕ)) → Stands self.now w feed → result ≡ place_of w (length feed) }
+    {
+        self.at
+    }
+
+    /// The feed goes on so many slots further on in the cycle, and is heard as one that begins there. Allocates no memory.
+    pub fn move_on(&mut self, by: usize)
+        ensures { (w : Watched) (feed : List (List ℕ)) → Stands self.old w feed → by < length w.cycle →
+            Stands self.new (moved w (length feed) (Some by)) [] }
+    {
+        let count = self.cycle.slots().len();
+        self.at = self.at.saturating_add(by) % count;
+        clear_all(&mut self.cells);
+        self.within = true;
+        self.longest = 0;
+        self.wrong = 0;
+        self.count = 0;
+    }
+
+    /// In how many successive transmissions, up to the repeat count, a text byte was wrong at most. Allocates no memory.
+    pub fn streak(&self) -> u8
+        ensures { (w : Watched) (feed : List (List ℕ)) → Stands self.now w feed → IsMostWrong w feed result }
+    {
+        ttx_packet::laws::rows_are_numbered();
+        ttx_page::laws::each_slot_turns();
+        ttx_page::laws::streams_move();
+        ttx_counter::laws::streaks_decide();
+        self.longest
     }
 
     /// Whether the feed so far is within the error rule for each page. Allocates no memory.

@@ -20,4 +20,11 @@ pub enum FeedVerdict {
         slot: u64,
         breach: Breach,
     },
+    /// It does not: at this slot it has slipped by `by` slots of a cycle of `count`.
+    Shifted {
+        start: u32,
+        slot: u64,
+        by: usize,
+        count: usize,
+    },
 }

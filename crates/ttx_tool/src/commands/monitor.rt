@@ -22,7 +22,7 @@ fn feed_status(verdict: FeedVerdict) -> u8
 {
     match verdict {
         FeedVerdict::Yes { .. } => 0,
-        FeedVerdict::No { .. } => 1,
+        FeedVerdict::No { .. } | FeedVerdict::Shifted { .. } => 1,
     }
 }
 

@@ -1,4 +1,4 @@
-use Rattle.std.proofs.Common.{◌∷◌, ◌++◌, [], length-append, refl, subst, arith}
+use Rattle.std.proofs.Common.{length, ap, ◌∙◌, refl, subst}
 use Rattle.ttx_monitor.specs.Feeds.{HearsAll}
 use Rattle.ttx_monitor.specs.Watching.{watched}
 use Rattle.ttx_monitor.proofs.hearing.verdict_of.Goals as goal
@@ -21,18 +21,10 @@ returns-in-End-clause-is c = λ cycle pages cert bytes is_cycle are is_cert hear
 
 pub returns-in-Broken-clause-is : goal.returns-in-Broken-clause-is
 returns-in-Broken-clause-is c = λ cycle pages cert bytes is_cycle are is_cert heard.
-    let w = watched cycle pages cert.repeat c.args.start in
-    let h = subst (HearsAll w bytes c.args.monitor.now) c.in-Broken.is heard in
-    record {
-      feed = h.feed;
-      received = h.received;
-      rest = h.rest;
-      same = h.same;
-      is_slot = h.is_slot;
-      within = h.broken.within;
-      how = h.broken.how;
-      slot_is =
-          let size = length-append h.feed (h.received ∷ []) in
-          let all = c.count-in-Broken.ensures w (h.feed ++ h.received ∷ []) h.broken.stands in
-          let less = c.saturating_sub.ensures in omega arith;
-    }
+    subst (HearsAll (watched cycle pages cert.repeat c.args.start) bytes c.args.monitor.now) c.in-Broken.is heard
+
+pub returns-in-Slipped-clause-is : goal.returns-in-Slipped-clause-is
+returns-in-Slipped-clause-is c = λ cycle pages cert bytes is_cycle are is_cert heard.
+    let h = subst (HearsAll (watched cycle pages cert.repeat c.args.start) bytes c.args.monitor.now) c.in-Slipped.is heard in
+    let o = h.1 in
+    (h.0, ap length (c.slots.ensures.slots ∙ c.cycle.ensures o.0 o.1 o.2 ∙ o.3))

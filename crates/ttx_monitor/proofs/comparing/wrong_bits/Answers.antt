@@ -1,0 +1,44 @@
+use Rattle.std.proofs.Common.{◌≡◌, ℕ, ◌||◌, Bool, true, false, if◌then◌else◌, refl, sym, ap, ◌∙◌, arith}
+use lib.Pointwise.{bytes_decides}
+use Rattle.ttx_packet.specs.Slots.{is_empty, kind_of}
+use Rattle.ttx_monitor.specs.Totals.{compared_bytes, wrong_bits_at}
+use Rattle.ttx_monitor.proofs.WrongBytes.{no_bits_in, first_sum, next_sum}
+use Rattle.ttx_monitor.proofs.comparing.wrong_bits.Goals as goal
+use Rattle.ttx_monitor.proofs.comparing.wrong_bits.Goals.{then-eq-via-then-eq, then-eq-via-else-eq+then-is_blank, then-eq-via-else-eq+else-is_blank+then-is_blank-2}
+
+unsummed : (b : Bool) (n : ℕ) → n ≡ 0 → 0 ≡ (if b then 0 else n)
+unsummed true n e = refl
+unsummed false n e = sym e
+
+blank : (a b : Bool) (n : ℕ) → a ≡ true → 0 ≡ (if a || b then 0 else n)
+blank true b n e = refl
+blank false b n e = cc
+
+other : (a b : Bool) (n : ℕ) → b ≡ true → 0 ≡ (if a || b then 0 else n)
+other true b n e = refl
+other false true n e = refl
+other false false n e = cc
+
+pub returns-then-eq : goal.returns-then-eq
+returns-then-eq c =
+    let s = c.args.sent.now in
+    let r = c.args.received.now in
+    elim c.then-eq.branch [
+      | then-eq-via-then-eq w ↦ unsummed (is_empty s || is_empty r) _
+          (no_bits_in s r ((bytes_decides r s).0 (sym w.if-eq.ensures)) (compared_bytes (kind_of s)))
+      | then-eq-via-else-eq+then-is_blank w ↦ blank (is_empty s) (is_empty r) _ (sym w.is_blank.ensures ∙ w.if-is_blank.true)
+      | then-eq-via-else-eq+else-is_blank+then-is_blank-2 w ↦
+          other (is_empty s) (is_empty r) _ (sym w.is_blank-else-is_blank.ensures ∙ w.if-is_blank-2.true)
+    ]
+
+pub loop-x-init : goal.loop-x-init
+loop-x-init c = record { few = omega arith; summed = sym (first_sum (wrong_bits_at c.args.sent.now c.args.received.now)) }
+
+pub loop-x-preserved : goal.loop-x-preserved
+loop-x-preserved c =
+    let of = wrong_bits_at c.args.sent.now c.args.received.now in
+    let inv = c.loop-x.invariant in
+    record {
+      few = let f = inv.few in let g = c.wrong_bits_of-wrong.ensures.few in omega arith;
+      summed = let n = next_sum of c.loop-x.x in let e = inv.summed in let i = c.wrong_bits_of-wrong.ensures.is in omega arith;
+    }
