@@ -8,7 +8,6 @@ mod OneFile
 mod TwoFiles
 pub mod PageByPage
 pub mod AuthoredIds
-mod ThreeInputs
 mod CertifiedIsShown
 mod OneVerdict
 pub mod Decisions

@@ -43,8 +43,10 @@ passes_are_files a c d verdict line h =
       cycle_is = w.second_is;
       service_is = h.service_is;
       certificate_is = h.certificate_is;
-      exact = walked_same w.second (let some = w.second_is.is_cycle.some in omega arith) pages (certificate_at h.w) verdict
-          (subst (λ x. IsWalkVerdict x w.second pages (certificate_at h.w) verdict) same w.exact);
-      seen = w.seen;
-      line_is = h.line_is;
+      judged = record {
+        exact = walked_same w.second (let some = w.second_is.is_cycle.some in omega arith) pages (certificate_at h.w) verdict
+            (subst (λ x. IsWalkVerdict x w.second pages (certificate_at h.w) verdict) same w.exact);
+        seen = w.seen;
+        line_is = h.line_is;
+      };
     }

@@ -2,11 +2,10 @@
 
 ghost use Rattle.std.specs.Prelude.{◌≡◌, ◌∷◌, [], IfSome, IfOk, string_bytes};
 ghost use Rattle.ttx_cycle.specs.Counters.{inner_of, faults_of};
-ghost use Rattle.ttx_cycle.specs.Cycles.{slots_of};
 ghost use Rattle.ttx_certificate.specs.Certificates.{fields_of};
 ghost use Rattle.ttx_files.specs.Answers.{IsUntouched, is_write};
-ghost use Rattle.ttx_files.specs.Devices.{AtCycle, AtService, AtCertificate, input, output, failed_at, IsRight, IsFirstFailure};
-ghost use Rattle.ttx_certify.specs.CertifyingFiles.{CertifiesFiles, IsJudged, JudgesFiles};
+ghost use Rattle.ttx_files.specs.Devices.{AtCycle, AtService, AtCertificate, input, output, failed_at, IsFirstFailure};
+ghost use Rattle.ttx_certify.specs.CertifyingFiles.{CertifiesFiles, IsJudged};
 ghost use Rattle.ttx_certify.specs.VerdictLines.{verdict_line};
 
 use crate::services::certify_service;
@@ -15,7 +14,7 @@ use crate::verdict_lines::verdict_line;
 use std::alloc::Global;
 use std::io::{Read, Write};
 use ttx_cycle::Counted;
-use ttx_files::{FilesFault, Inputs, Told, read_inputs, write_told};
+use ttx_files::{FilesFault, Inputs, Judge, Told, answer_files};
 use ttx_witness::{Certificate, NoMemory};
 
 /// The line of a verdict on `pages` pages.
@@ -30,45 +29,23 @@ pub fn line_of(
     verdict_line(alloc, certificate, pages, *verdict)
 }
 
-// The verdict on the inputs, and its line.
-fn judge(alloc: Global, inputs: &Inputs) -> Result<Told<Verdict>, NoMemory>
-    ensures { IfOk result (λ judged. IsJudged (slots_of inputs.now.cycle) inputs.now.service (fields_of inputs.now.certificate)
-        judged.verdict (string_bytes judged.line)) }
-{
-    let (service, certificate) = (&inputs.service, &inputs.certificate);
-    let Ok(verdict) = certify_service(alloc, &inputs.cycle, service, certificate) else {
-        return Err(NoMemory);
-    };
-    match line_of(alloc, certificate, service.pages().len(), &verdict) {
-        Ok(line) => Ok(Told { verdict, line }),
-        Err(_) => Err(NoMemory),
-    }
-}
+// Judges for receivers that show pages at once.
+struct AtOnce;
 
-// Reads the three inputs and judges them.
-fn judge_files<A: Read, B: Read, C: Read>(
-    alloc: Global,
-    cycle: &mut Counted<A>,
-    service: &mut Counted<B>,
-    certificate: &mut Counted<C>,
-) -> Result<Told<Verdict>, FilesFault>
-    ensures bytes { IfSome (A.remaining (inner_of cycle.old)) (λ a.
-        IfSome (B.remaining (inner_of service.old)) (λ b.
-        IfSome (C.remaining (inner_of certificate.old)) (λ c. JudgesFiles a b c result))) }
-    ensures right { IfOk result (λ _. IsRight AtCycle (A.remaining (inner_of cycle.old)) × IsRight AtService (B.remaining (inner_of service.old))
-        × IsRight AtCertificate (C.remaining (inner_of certificate.old))) }
-    ensures faults { IsFirstFailure (input AtCycle (A.remaining (inner_of cycle.old)) (faults_of cycle.old) (faults_of cycle.new)
-        ∷ input AtService (B.remaining (inner_of service.old)) (faults_of service.old) (faults_of service.new)
-        ∷ input AtCertificate (C.remaining (inner_of certificate.old)) (faults_of certificate.old) (faults_of certificate.new) ∷ [])
-        (failed_at result) }
-{
-    let inputs = match read_inputs(alloc, cycle, service, certificate) {
-        Ok(inputs) => inputs,
-        Err(fault) => return Err(fault),
-    };
-    match judge(alloc, &inputs) {
-        Ok(judged) => Ok(judged),
-        Err(_) => Err(FilesFault::NoMemory),
+impl Judge for AtOnce {
+    type Verdict = Verdict;
+
+    ghost says = { λ j. IsJudged };
+
+    fn judge(&self, alloc: Global, inputs: &Inputs) -> Result<Told<Verdict>, NoMemory> {
+        let (service, certificate) = (&inputs.service, &inputs.certificate);
+        let Ok(verdict) = certify_service(alloc, &inputs.cycle, service, certificate) else {
+            return Err(NoMemory);
+        };
+        match line_of(alloc, certificate, service.pages().len(), &verdict) {
+            Ok(line) => Ok(Told { verdict, line }),
+            Err(_) => Err(NoMemory),
+        }
     }
 }
 
@@ -94,6 +71,5 @@ pub fn certify_files<A: Read, B: Read, C: Read, W: Write>(
         ∷ output (faults_of writer.old) (faults_of writer.new) ∷ []) (failed_at result) }
     ensures untouched { IsUntouched is_write result writer.old writer.new }
 {
-    let told = judge_files(alloc, cycle, service, certificate);
-    write_told(told, writer)
+    answer_files(alloc, &AtOnce, cycle, service, certificate, writer)
 }

@@ -1,5 +1,3 @@
 mod LaterDeadlines
-mod JudgedInputs
 mod FoundLaws
 mod ShownInTime
-mod JudgedLate

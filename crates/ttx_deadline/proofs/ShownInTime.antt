@@ -7,14 +7,13 @@ use Rattle.ttx_cycle.specs.Files.{IsCycle}
 use Rattle.ttx_page.specs.Pages.{Page}
 use Rattle.ttx_source.specs.Services.{ServiceFields, pages_of}
 use Rattle.ttx_certificate.specs.Entries.{CertificateFields, certificate_at}
-use Rattle.ttx_certificate.specs.NamedStarts.{Certificate, limit}
+use Rattle.ttx_certificate.specs.NamedStarts.{Certificate}
 use Rattle.ttx_certify.specs.Seen.{Seen}
 use Rattle.ttx_late.specs.Followed.{AllAreFollowed, IsGreatestGap}
 use Rattle.ttx_late.specs.Laws.{FollowedIsWithin}
 use Rattle.ttx_late.specs.LateVerdicts.{MeansLate}
 use Rattle.ttx_late.specs.SeenLate.{SeenLate}
 use Rattle.ttx_late.specs.declared.verdict.LateVerdict.TheVariants as late
-use Rattle.ttx_deadline.specs.Deadlines.{with_deadline}
 use Rattle.ttx_deadline.specs.LateRequirements.{fields_up, late_deadline, first_late_unmet, unless_unmet, IsShownWithin, MeansLateRequired}
 use Rattle.ttx_deadline.specs.declared.requirements.Unmet.{Unmet}
 use Rattle.ttx_deadline.specs.declared.requirements.Unmet.TheVariants.{Lines, LateDeadline}

@@ -2,19 +2,18 @@
 
 ghost use Rattle.std.specs.Prelude.{◌≡◌, ◌∷◌, [], IfSome, IfOk, string_bytes};
 ghost use Rattle.ttx_cycle.specs.Counters.{inner_of, faults_of};
-ghost use Rattle.ttx_cycle.specs.Cycles.{slots_of};
 ghost use Rattle.ttx_certificate.specs.Certificates.{fields_of};
 ghost use Rattle.ttx_files.specs.Answers.{IsUntouched, is_write};
-ghost use Rattle.ttx_files.specs.Devices.{AtCycle, AtService, AtCertificate, input, output, failed_at, IsRight, IsFirstFailure};
+ghost use Rattle.ttx_files.specs.Devices.{AtCycle, AtService, AtCertificate, input, output, failed_at, IsFirstFailure};
 ghost use Rattle.ttx_deadline.specs.RequiredLines.{required_line};
-ghost use Rattle.ttx_deadline.specs.RequiredFiles.{CertifiesRequired, IsJudgedRequired, JudgesRequired};
+ghost use Rattle.ttx_deadline.specs.RequiredFiles.{CertifiesRequired, IsJudgedRequired};
 
 use crate::required_lines::required_line;
 use crate::requirements::{RequiredVerdict, certify_required};
 use std::alloc::Global;
 use std::io::{Read, Write};
 use ttx_cycle::Counted;
-use ttx_files::{FilesFault, Inputs, Told, read_inputs, write_told};
+use ttx_files::{FilesFault, Inputs, Judge, Told, answer_files};
 use ttx_witness::{Certificate, NoMemory};
 
 // The line of a verdict on so many pages.
@@ -29,50 +28,25 @@ fn line_of(
     required_line(alloc, certificate, pages, *verdict)
 }
 
-// The verdict on what was read, and its line.
-fn judge(
-    alloc: Global,
-    inputs: &Inputs,
-    required: Option<u32>,
-) -> Result<Told<RequiredVerdict>, NoMemory>
-    ensures { IfOk result (λ judged. IsJudgedRequired (slots_of inputs.now.cycle) inputs.now.service (fields_of inputs.now.certificate)
-        required judged.verdict (string_bytes judged.line)) }
-{
-    let (service, certificate) = (&inputs.service, &inputs.certificate);
-    let Ok(verdict) = certify_required(alloc, &inputs.cycle, service, certificate, required) else {
-        return Err(NoMemory);
-    };
-    match line_of(alloc, certificate, service.pages().len(), &verdict) {
-        Ok(line) => Ok(Told { verdict, line }),
-        Err(_) => Err(NoMemory),
-    }
-}
+// Judges with a requirement.
+#[derive(Drop)]
+struct Required(Option<u32>);
 
-// Reads the three inputs and judges them.
-fn judge_files<A: Read, B: Read, C: Read>(
-    alloc: Global,
-    cycle: &mut Counted<A>,
-    service: &mut Counted<B>,
-    certificate: &mut Counted<C>,
-    required: Option<u32>,
-) -> Result<Told<RequiredVerdict>, FilesFault>
-    ensures bytes { IfSome (A.remaining (inner_of cycle.old)) (λ a.
-        IfSome (B.remaining (inner_of service.old)) (λ b.
-        IfSome (C.remaining (inner_of certificate.old)) (λ c. JudgesRequired a b c required result))) }
-    ensures right { IfOk result (λ _. IsRight AtCycle (A.remaining (inner_of cycle.old)) × IsRight AtService (B.remaining (inner_of service.old))
-        × IsRight AtCertificate (C.remaining (inner_of certificate.old))) }
-    ensures faults { IsFirstFailure (input AtCycle (A.remaining (inner_of cycle.old)) (faults_of cycle.old) (faults_of cycle.new)
-        ∷ input AtService (B.remaining (inner_of service.old)) (faults_of service.old) (faults_of service.new)
-        ∷ input AtCertificate (C.remaining (inner_of certificate.old)) (faults_of certificate.old) (faults_of certificate.new) ∷ [])
-        (failed_at result) }
-{
-    let inputs = match read_inputs(alloc, cycle, service, certificate) {
-        Ok(inputs) => inputs,
-        Err(fault) => return Err(fault),
-    };
-    match judge(alloc, &inputs, required) {
-        Ok(judged) => Ok(judged),
-        Err(_) => Err(FilesFault::NoMemory),
+impl Judge for Required {
+    type Verdict = RequiredVerdict;
+
+    ghost says = { λ j slots service w. IsJudgedRequired slots service w j.0 };
+
+    fn judge(&self, alloc: Global, inputs: &Inputs) -> Result<Told<RequiredVerdict>, NoMemory> {
+        let (service, certificate) = (&inputs.service, &inputs.certificate);
+        let Ok(verdict) = certify_required(alloc, &inputs.cycle, service, certificate, self.0)
+        else {
+            return Err(NoMemory);
+        };
+        match line_of(alloc, certificate, service.pages().len(), &verdict) {
+            Ok(line) => Ok(Told { verdict, line }),
+            Err(_) => Err(NoMemory),
+        }
     }
 }
 
@@ -98,6 +72,12 @@ pub fn certify_files_required<A: Read, B: Read, C: Read, W: Write>(
         ∷ output (faults_of writer.old) (faults_of writer.new) ∷ []) (failed_at result) }
     ensures untouched { IsUntouched is_write result writer.old writer.new }
 {
-    let told = judge_files(alloc, cycle, service, certificate, required);
-    write_told(told, writer)
+    answer_files(
+        alloc,
+        &Required(required),
+        cycle,
+        service,
+        certificate,
+        writer,
+    )
 }

@@ -4,4 +4,5 @@ pub mod Inputs
 pub mod Feeds
 pub mod Answers
 pub mod Telling
+pub mod Judging
 pub mod Known

@@ -3,12 +3,14 @@
 
 mod faults;
 pub mod feeds;
+mod judging;
 mod readers;
 mod slots;
 mod told;
 mod writers;
 
 pub use faults::{FeedFault, FilesFault, TextFile};
+pub use judging::{Judge, answer_files};
 pub use readers::{
     Inputs, Served, Texts, read_definition, read_inputs, read_packets, read_served,
     read_service_text, read_text, read_texts, read_witness,

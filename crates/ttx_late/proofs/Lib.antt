@@ -9,4 +9,3 @@ mod FollowersOfCycles
 mod GreatestGap
 mod NeverFollowed
 pub mod LateVerdicts
-mod LateFiles

@@ -445,7 +445,7 @@ means_late_by_rows seen shown cycle pages w is_cycle are_pages is_certificate (N
 
 pub files_mean_by_rows : VerdictsMeanByRows → FilesMeanByRows
 files_mean_by_rows mean a b c verdict line told are_pages is_certificate =
-    mean told.slots (pages_of told.service) (certificate_at told.w) told.cycle_is.is_cycle are_pages is_certificate verdict told.exact
+    mean told.slots (pages_of told.service) (certificate_at told.w) told.cycle_is.is_cycle are_pages is_certificate verdict told.judged.exact
 
 pub late_files_mean_by_rows : LateVerdictsMeanByRows → LateFilesMeanByRows
 late_files_mean_by_rows mean a b c verdict line told are_pages is_certificate =

@@ -105,12 +105,14 @@ found_is_certified law a b class repeat file line f =
           most = short_of f.slots f.service t.w t.deadline file line t.told;
           says = ap read_text (text_of f.slots f.service t.w t.deadline file line t.told) ∙ law t.w t.fields;
         };
-        exact = accepted_of f.slots f.service repeat class t.w t.deadline file line t.found t.told;
-        seen = seen_of f.slots f.service t.w t.deadline file line t.told;
-        line_is = refl;
+        judged = record {
+          exact = accepted_of f.slots f.service repeat class t.w t.deadline file line t.found t.told;
+          seen = seen_of f.slots f.service t.w t.deadline file line t.told;
+          line_is = refl;
+        };
       };
       only = λ verdict said c. is_yes c.slots c.service c.w verdict
-          (accepted_there law a b class repeat file line f c.slots c.service c.w c.cycle_is c.service_is c.certificate_is) c.exact;
+          (accepted_there law a b class repeat file line f c.slots c.service c.w c.cycle_is c.service_is c.certificate_is) c.judged.exact;
     }
 
 -- ---- for receivers that show a page late

@@ -1,7 +1,7 @@
 use Rattle.std.proofs.Common.{ap, ◌∙◌}
 use Rattle.ttx_certificate.specs.Certificates.{fields_of}
 use Rattle.ttx_deadline.specs.RequiredLines.{required_line}
-use Rattle.ttx_deadline.proofs.required_files.judge.Goals as goal
+use Rattle.ttx_deadline.proofs.required_files.RequiredJudge.judge.Goals as goal
 
 pub returns-in-Ok-line_of : goal.returns-in-Ok-line_of
 returns-in-Ok-line_of c = record {

@@ -1,7 +1,7 @@
 use Rattle.std.proofs.Common.{ap, ◌∙◌}
 use Rattle.ttx_witness.specs.Certificates.{fields_of}
 use Rattle.ttx_late.specs.LateVerdictLines.{late_verdict_line}
-use Rattle.ttx_late.proofs.files.judge.Goals as goal
+use Rattle.ttx_late.proofs.files.LateJudge.judge.Goals as goal
 
 pub returns-in-Ok-line_of : goal.returns-in-Ok-line_of
 returns-in-Ok-line_of c = record {
