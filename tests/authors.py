@@ -1,8 +1,10 @@
 #!/usr/bin/env python3
-"""Compares authors' rows with a plain model.
+"""Compares authors' rows and whole texts with a plain model.
 
 usage: authors.py write > CASES          300 random texts and 300 random rows, a line each
        authors.py compare CASES ANSWERS  the answers of a program to these lines, beside the plain model
+       authors.py texts FOLDER           300 random authors' texts, NNN.toml, and what is due for each
+       authors.py composed FOLDER        NNN.toml.out, what `compose` wrote or its mistakes, beside the plain model
 
 A line is `text OPTION TEXT` or `row OPTION HEX`, with tabs. The answers are `ok HEX`, `lack PLACE WHY` and `text TEXT`. The plain model knows
 the national sets and Unicode's names of block mosaics, and shares no code with the program.
@@ -137,10 +139,245 @@ def compare(cases, answers):
     print("authors:", ", ".join(f"{kind} {count}" for kind, count in sorted(kinds.items())))
 
 
+OPTIONS = "english german swedish italian french spanish czech".split()
+
+
+class File:
+    """A text that knows where each character of a value stands."""
+
+    def __init__(self):
+        self.text = ""
+
+    def add(self, text):
+        self.text += text
+
+    def value(self, rng, text, several=False):
+        """Writes a TOML text in one of its forms; answers the place of each character."""
+        form = "lines" if several else rng.choice(["basic", "basic", "literal"])
+        if form == "literal" and ("'" in text or any(c < " " for c in text)):
+            form = "basic"
+        opening, closing = {"basic": ('"', '"'), "literal": ("'", "'"), "lines": ('"""\n', '"""')}[form]
+        self.add(opening)
+        places = []
+        for c in text:
+            places.append(len(self.text))
+            if form == "literal" or (form == "lines" and c == "\n"):
+                self.add(c)
+            elif c in '"\\':
+                self.add("\\" + c)
+            elif c < " " or rng.random() < 0.05:
+                self.add(f"\\u{ord(c):04X}" if ord(c) < 0x10000 else f"\\U{ord(c):08X}")
+            else:
+                if form == "lines" and rng.random() < 0.02:
+                    self.add("\\\n   ")
+                    if c in " ":
+                        self.add("\\u0020")
+                        places[-1] = len(self.text) - 6
+                        continue
+                    places[-1] = len(self.text)
+                self.add(c)
+        places.append(len(self.text))
+        self.add(closing)
+        return places
+
+    def at(self, place):
+        before = self.text[:place]
+        return f"{before.count(chr(10)) + 1}:{place - before.rfind(chr(10))}"
+
+
+def width_codes(text, option, width):
+    """The codes of a text in some cells, without spaces behind them, or where it has none."""
+    cells, place, mode, codes_so_far = 0, 0, 0, []
+    answer = codes(text, option)
+    # the model of rows counts 40 cells: for less, look for the mark that has no room
+    by_mode = [{c: code for code, c in shown(option).items()} for shown in (letters, mosaics)]
+    while place < len(text):
+        tag = re.match(r"\{([^}]*)\}", text[place:])
+        if text.startswith("{{", place):
+            size, marks = 2, ["{"]
+        elif text[place] != "{":
+            size, marks = 1, [text[place]]
+        elif tag and tag[1] in NAMES:
+            size, marks = len(tag[0]), NAMES[tag[1]]
+        else:
+            return ("room" if cells == width else "tag"), place
+        for mark in marks:
+            if cells == width:
+                return "room", place
+            code = mark if isinstance(mark, int) else by_mode[mode].get(mark)
+            if code is None:
+                return ("character" if mark not in by_mode[1 - mode] else "letter" if mode else "mosaic"), place
+            codes_so_far.append(code)
+            cells += 1
+            mode = 0 if 1 <= code <= 7 else 1 if 0x11 <= code <= 0x17 else mode
+        place += size
+    if width == 40:
+        assert answer.startswith("ok "), (text, answer)
+    return "ok", bytes(codes_so_far).decode("ascii")
+
+
+def good_text(rng, option, width):
+    """A text that mostly has a meaning."""
+    mode, parts, cells = 0, [], 0
+    for _ in range(rng.randrange(0, width + 1)):
+        if rng.random() < 0.15:
+            name = rng.choice([name for name in NAMES if "box" not in name])
+            code = NAMES[name][0]
+            mode = 0 if 1 <= code <= 7 else 1 if 0x11 <= code <= 0x17 else mode
+            parts.append("{" + name + "}")
+        else:
+            sign = rng.choice(list((mosaics if mode else letters)(option).values()))
+            parts.append("{{" if sign == "{" else sign)
+        cells += 1
+        if cells == width:
+            break
+    if rng.random() < 0.04:
+        parts.insert(rng.randrange(len(parts) + 1), rng.choice(["é", "☃", "{rde}", "{", "🬀", "ä", "\t"]))
+    return "".join(parts)
+
+
+def some_page(rng, file, number, due, service):
+    option = rng.randrange(8)
+    file.add(f"\n# page {number}\n[[page]]\nnumber = \"{number}\"\n")
+    page = {"number": str(number)}
+    kind = rng.random()
+    if kind < 0.4:
+        file.add(f"option = {option}\n")
+        page["option"] = option
+    elif kind < 0.8:
+        option = rng.randrange(7)
+        file.add("option = ")
+        named = rng.random() >= 0.03
+        place = len(file.text)
+        file.value(rng, OPTIONS[option] if named else "frensh")
+        file.add("\n")
+        page["option"] = option
+        if not named:
+            due.append((file.at(place), "no national option is called frensh"))
+            option = None
+    else:
+        option = 0
+
+    def note(text, places, width, key=None):
+        if option is None:
+            return None
+        why, what = width_codes(text, option, width)
+        if why == "ok":
+            return what
+        words = {"room": "no cell is left", "character": " has no ", "letter": "in mosaic mode", "mosaic": "outside mosaic mode", "tag": ""}[why]
+        due.append((file.at(places[what]), words))
+        return None
+
+    if rng.random() < 0.7:
+        text = good_text(rng, option or 0, 24)
+        file.add("head = ")
+        page["head"] = note(text, file.value(rng, text), 24)
+        file.add("\n")
+    if rng.random() < 0.3:
+        file.add("row24 = true\n")
+        page["row24"] = True
+    rows, found = {}, []
+    file.add("[page.rows]\n")
+    lines = []
+    if rng.random() < 0.6:
+        lines = [good_text(rng, option or 0, 40) if rng.random() < 0.7 else "" for _ in range(rng.randrange(1, 25))]
+        if rng.random() < 0.03:
+            lines += ["a"] * (26 - len(lines))
+        lines = [line if "\n" not in line and "\r" not in line else "" for line in lines]
+        text = "\n".join(lines)
+        file.add("text = ")
+        places = file.value(rng, text, several=True)
+        file.add("\n")
+        start = 0
+        for index, line in enumerate(lines):
+            here = places[start:start + len(line) + 1]
+            start += len(line) + 1
+            if line and index < 24:
+                found.append((index, line, here, False))
+            if index == 24 and option is not None:
+                found.append((24, None, here, False))
+    numbered = []
+    for index in sorted(rng.sample(range(24), rng.randrange(4))):
+        blank = index >= len(lines) or not lines[index].strip(" ")
+        if blank or rng.random() < 0.1:
+            text = good_text(rng, option or 0, 40)
+            file.add(f"{index + 1} = ")
+            here = file.value(rng, text)
+            file.add("\n")
+            found = [f for f in found if f[0] != index]
+            found.append((index, text, here, not blank))
+    for index, text, here, twice in sorted(found, key=lambda f: f[0]):
+        if index == 24:
+            due.append((file.at(here[0]), "more than 24 lines"))
+            continue
+        if twice and option is not None:
+            due.append((file.at(here[0]), "stands in `text` too"))
+        row = note(text, here, 40)
+        rows[str(index + 1)] = row
+    page["rows"] = rows
+    service["page"].append(page)
+
+
+def write_texts(folder):
+    import json
+    rng = random.Random(4949)
+    for case in range(300):
+        file, due = File(), []
+        file.add(f"author = 1\nlines = {rng.randrange(1, 33)}\nserial = true\n")
+        service = {"lines": int(file.text.split("lines = ")[1].split()[0]), "serial": True, "page": []}
+        if rng.random() < 0.4:
+            file.add('[info]\nnetwork = "12F4"\nmjd = 46000\nutc = 123045\ntext = ')
+            text = good_text(rng, 0, 20)
+            places = file.value(rng, text)
+            why, what = width_codes(text, 0, 20)
+            words = {"room": "no cell is left", "character": " has no ", "letter": "in mosaic mode", "mosaic": "outside mosaic mode", "tag": ""}
+            if why != "ok":
+                due.append((file.at(places[what]), words[why]))
+            service["info"] = {"network": "12F4", "mjd": 46000, "utc": 123045, "text": what}
+            file.add("\n")
+        for number in range(100, 100 + rng.randrange(1, 6)):
+            some_page(rng, file, number, due, service)
+        with open(f"{folder}/{case:03}.toml", "w", encoding="utf-8", newline="\n") as out:
+            out.write(file.text)
+        with open(f"{folder}/{case:03}.due", "w", encoding="utf-8") as out:
+            json.dump({"due": due, "service": service}, out)
+
+
+def compare_texts(folder):
+    import json
+    import tomllib
+    kinds = {"composed": 0, "refused": 0, "mistakes": 0}
+    for case in range(300):
+        name = f"{folder}/{case:03}.toml"
+        wanted = json.load(open(f"{folder}/{case:03}.due", encoding="utf-8"))
+        told = open(name + ".out", encoding="utf-8", newline="\n").read()
+        if wanted["due"]:
+            lines = told.split("\n")[:-1]
+            count = len(wanted["due"])
+            assert lines[-1] == f"{count} mistake" + "s" * (count != 1), (name, lines, wanted["due"])
+            for line, (at, words) in zip(lines, wanted["due"], strict=False):
+                assert line.startswith(f"{name}:{at}: error: ") and words in line, (line, at, words)
+            assert len(lines) == count + 1, (name, lines)
+            kinds["refused"] += 1
+            kinds["mistakes"] += count
+        else:
+            assert told.startswith("# Composed from "), (name, told)
+            assert tomllib.loads(told) == wanted["service"], (name, tomllib.loads(told), wanted["service"])
+            pages = told.split("[[page]]")
+            for number, before in enumerate(pages[:-1], 100):
+                assert before.endswith(f"# page {number}\n"), (name, before)
+            kinds["composed"] += 1
+    print("authors' texts:", ", ".join(f"{kind} {count}" for kind, count in kinds.items()))
+
+
 if __name__ == "__main__":
     if sys.argv[1:] == ["write"]:
         write()
     elif len(sys.argv) == 4 and sys.argv[1] == "compare":
         compare(*sys.argv[2:])
+    elif len(sys.argv) == 3 and sys.argv[1] == "texts":
+        write_texts(sys.argv[2])
+    elif len(sys.argv) == 3 and sys.argv[1] == "composed":
+        compare_texts(sys.argv[2])
     else:
         sys.exit(__doc__)

@@ -1,3 +1,6 @@
 mod Members
 mod Indices
 mod PageItems
+mod Deepest
+mod Got
+mod SeenTexts

@@ -5,3 +5,7 @@ pub mod Texts
 pub mod Rows
 pub mod Pages
 pub mod Services
+pub mod Said
+pub mod Composing
+pub mod Decomposing
+pub mod Seen

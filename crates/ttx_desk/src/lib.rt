@@ -1,12 +1,25 @@
 //! Whole texts as authors write them: an author's text as the text of a service, and back.
 #![tactic(auto)]
 
+mod comments;
+mod composing;
+mod decomposing;
+mod depths;
+pub mod laws;
 mod lines;
-pub mod mistakes;
+mod messages;
+mod mistakes;
 mod pages;
+mod places;
 mod rows;
+mod said;
 mod services;
 mod tables;
 mod texts;
+mod unwriting;
+mod writing;
 
+pub use composing::{ComposeFault, Composed, compose};
+pub use decomposing::{DecomposeFault, decompose};
+pub use messages::push_mistakes;
 pub use mistakes::{Fault, Mistake, Part};

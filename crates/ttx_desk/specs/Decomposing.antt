@@ -1,0 +1,39 @@
+-- The author's text of a service text.
+--
+--   Means                   an author's text has no mistake, and means the table that a text is
+--   IsAuthorOf              it means this table
+--   Decomposes              what is answered for a service text
+use Rattle.std.specs.Prelude.{◌≡◌, ◌⊎◌, ℕ, List, [], string_bytes, ⊤, String, Option, Some, None, Result, Ok, Err}
+use Rattle.toml.specs.Data.{Members}
+use Rattle.toml.specs.Parse.{parse_document}
+use Rattle.ttx_source.specs.Faults.{fault_of}
+use Rattle.ttx_source.specs.KeyFaults.{out_of_memory}
+use Rattle.ttx_source.specs.Services.{read_bytes}
+use Rattle.std.specs.declared.alloc.Global.{Global}
+use Rattle.ttx_desk.specs.Services.{service_table, mistakes}
+use Rattle.ttx_desk.specs.Composing.{author_in}
+use Rattle.ttx_desk.specs.declared.decomposing.DecomposeFault.{DecomposeFault}
+use Rattle.ttx_desk.specs.declared.decomposing.DecomposeFault.TheVariants.{Service, Unsaid, NoMemory}
+
+-- the author's text is TOML without mistakes, and means this table
+pub record IsAuthorOf (text : List ℕ) (table : Members) : Type 0 where
+  pub author : Members
+  pub reads : parse_document text ≡ Some author
+  pub clean : mistakes author ≡ []
+  pub same : service_table author ≡ table
+
+-- it means the table that another text is
+abbrev pub Means : List ℕ → List ℕ → Type 0
+Means author text = (table : Members) × (parse_document text ≡ Some table) × IsAuthorOf author table
+
+abbrev pub IsUnsaid : DecomposeFault → Type 0
+IsUnsaid (Service error) = ⊥
+IsUnsaid Unsaid = ⊤
+IsUnsaid NoMemory = ⊤
+
+-- An author's text means the very table of the service text, which is that of a service. Otherwise the first fault of the service text.
+abbrev pub Decomposes : List ℕ → Result (String Global) DecomposeFault → Type 0
+Decomposes bytes (Ok text) = (table : Members) × (author_in bytes ≡ Some table) × IsAuthorOf (string_bytes text) table
+Decomposes bytes (Err (Service error)) = (error ≡ out_of_memory) ⊎ (read_bytes bytes ≡ Err (fault_of error.fault, error.page))
+Decomposes bytes (Err Unsaid) = ⊤
+Decomposes bytes (Err NoMemory) = ⊤
