@@ -1,5 +1,5 @@
 -- One step of a monitor.
-use Rattle.std.proofs.Common.{◌≡◌, ◌⊎◌, ℕ, suc, ◌<◌, ◌≤◌, min, List, [], ◌∷◌, ◌++◌, length, get_or, take, drop, All, Option, Some, None, refl, sym, ap, ◌∙◌, subst, inl, inr, arith}
+use Rattle.std.proofs.Common.{◌≡◌, ◌⊎◌, ℕ, suc, ◌<◌, List, [], ◌∷◌, ◌++◌, length, get_or, take, drop, All, Option, Some, None, refl, sym, ap, ◌∙◌, subst, inl, inr, arith}
 use Rattle.std.proofs.Common.{append_assoc}
 use Rattle.std.specs.Option.{IsSome, unwrap_or}
 use Rattle.std.proofs.lemmas.Bool.{cases_lt, both_ways}
@@ -12,7 +12,7 @@ use Rattle.ttx_monitor.specs.Watching.{Watched, sent_at}
 use Rattle.ttx_monitor.specs.Breaches.{IsHeard}
 use Rattle.ttx_monitor.specs.Standing.{Stands}
 use Rattle.ttx_monitor.specs.FirstPeriods.{IsFirstPeriod}
-use Rattle.ttx_monitor.specs.Events.{moved, since, IsShift, IsEvent}
+use Rattle.ttx_monitor.specs.Events.{moved, since, IsShift}
 use Rattle.ttx_monitor.specs.MostWrong.{IsMostWrong}
 use Rattle.ttx_monitor.specs.Totals.{wrong_in, bits_in}
 use Rattle.ttx_monitor.specs.Waiting.{waiting, IsBehind, IsLeft, HasMore, IsEnough}

@@ -1,13 +1,13 @@
 -- Slots that wait to be heard.
-use Rattle.std.proofs.Common.{◌≡◌, ◌⊎◌, ℕ, ◌+◌, ◌<◌, ◌≤◌, List, [], ◌∷◌, ◌++◌, length, get_or, take, drop, All, Option, Some, None, refl, sym, ap, ◌∙◌, subst, inl, inr, arith}
-use Rattle.std.proofs.Common.{append_assoc, append-nil, length-append}
+use Rattle.std.proofs.Common.{◌≡◌, ℕ, ◌<◌, List, [], ◌∷◌, ◌++◌, length, get_or, All, Option, Some, None, refl, sym, ap, ◌∙◌, subst, inl, inr, arith}
+use Rattle.std.proofs.Common.{append_assoc, append-nil}
 use Rattle.std.specs.Option.{IfSome}
 use Rattle.std.specs.Io.KnownBytes.{Consumes}
 use Rattle.std.proofs.lemmas.Bool.{cases_lt}
 use Rattle.std.proofs.lemmas.List.{get_or_append_left, get_or_push, length_push}
 use Rattle.ttx_packet.specs.Slots.{IsSlot}
 use Rattle.ttx_cycle.specs.Files.{file_of}
-use Rattle.ttx_monitor.specs.Waiting.{waiting, IsBehind, IsLeft, HasMore, IsEnough}
+use Rattle.ttx_monitor.specs.Waiting.{waiting, IsBehind, IsLeft, HasMore}
 use Rattle.ttx_monitor.specs.declared.ahead.Ahead.{Ahead}
 use Rattle.ttx_monitor.proofs.HeardFeeds.{file_more}
 

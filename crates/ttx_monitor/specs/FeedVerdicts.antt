@@ -5,8 +5,7 @@
 --   start_of, IsVerdictOf   the start that a verdict names, and what it says
 --   StartsAt                the start by the first slots of a feed
 --   IsFeedVerdict           the verdict on a feed of these bytes
-use Rattle.std.specs.Prelude.{◌≡◌, ◌⊎◌, ℕ, ◌-◌, ◌^◌, ◌<◌, ◌≤◌, min, List, ◌++◌, length, All, Option, Some, None}
-use Rattle.ttx_packet.specs.Slots.{IsSlot}
+use Rattle.std.specs.Prelude.{◌≡◌, ◌⊎◌, ℕ, ◌-◌, ◌^◌, ◌<◌, ◌≤◌, min, List, ◌++◌, length, Option, Some, None}
 use Rattle.ttx_page.specs.Pages.{Page}
 use Rattle.ttx_cycle.specs.Files.{file_of}
 use Rattle.ttx_witness.specs.Coverage.{Certificate, Accepts, limit}

@@ -3,7 +3,7 @@
 --   IsWhole, IsBroken, IsSlipped    how the hearing of a feed ends
 --   IsEnding, IsOver        what is made of a slot ends the hearing; which cycle a monitor watches
 --   HearsAll                what a monitor makes of a feed of these bytes
-use Rattle.std.specs.Prelude.{◌≡◌, ◌⊎◌, ℕ, ◌-◌, ◌^◌, ◌<◌, ◌≤◌, List, [], ◌∷◌, ◌++◌, length, take, slice_index_or, ⊤, Option, Some, None, IfSome, Result, Ok, Err}
+use Rattle.std.specs.Prelude.{◌≡◌, ◌⊎◌, ℕ, ◌-◌, ◌^◌, ◌<◌, ◌≤◌, List, ◌++◌, length, Some, None}
 use Rattle.ttx_packet.specs.Slots.{IsSlot}
 use Rattle.ttx_cycle.specs.Files.{file_of}
 use Rattle.ttx_monitor.specs.Watching.{Watched, IsWithin}

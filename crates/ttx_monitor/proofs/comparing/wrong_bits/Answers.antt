@@ -1,4 +1,4 @@
-use Rattle.std.proofs.Common.{◌≡◌, ℕ, ◌||◌, Bool, true, false, if◌then◌else◌, refl, sym, ap, ◌∙◌, arith}
+use Rattle.std.proofs.Common.{◌≡◌, ℕ, ◌||◌, Bool, true, false, if◌then◌else◌, refl, sym, ◌∙◌, arith}
 use lib.Pointwise.{bytes_decides}
 use Rattle.ttx_packet.specs.Slots.{is_empty, kind_of}
 use Rattle.ttx_monitor.specs.Totals.{compared_bytes, wrong_bits_at}

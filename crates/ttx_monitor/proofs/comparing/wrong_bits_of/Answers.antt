@@ -1,4 +1,4 @@
-use Rattle.std.proofs.Common.{◌≤◌, ◌∙◌, subst, sym, arith}
+use Rattle.std.proofs.Common.{arith}
 use Rattle.std.proofs.lemmas.Nat.{xor_of_8}
 use Rattle.ttx_code.specs.Words.{distance}
 use Rattle.ttx_monitor.proofs.NearBytes.{ones_at, few_ones}

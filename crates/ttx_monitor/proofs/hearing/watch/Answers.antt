@@ -1,4 +1,4 @@
-use Rattle.std.proofs.Common.{All, [], length, sym, ◌∙◌, subst}
+use Rattle.std.proofs.Common.{All, length, sym, subst}
 use Rattle.ttx_packet.specs.Slots.{IsSlot}
 use Rattle.ttx_cycle.specs.Counters.{inner_of}
 use Rattle.ttx_cycle.specs.Cycles.{slots_of, slots_of-IsCycle}

@@ -1,8 +1,8 @@
-use Rattle.std.proofs.Common.{◌≡◌, ◌+◌, ◌<◌, ◌%◌, not, length, take, Some, None, refl, sym, ap, ◌∙◌, subst, inl, inr, arith, mod-eq_of_lt}
+use Rattle.std.proofs.Common.{◌+◌, ◌<◌, ◌%◌, not, length, take, Some, None, sym, ap, ◌∙◌, subst, inl, inr, arith, mod-eq_of_lt}
 use Rattle.std.proofs.lemmas.Nat.{mod_below}
 use Rattle.std.proofs.lemmas.List.{length-take}
 use Rattle.ttx_cycle.specs.Counters.{inner_of}
-use Rattle.ttx_cycle.specs.Cycles.{slots_of, slots_of-IsCycle}
+use Rattle.ttx_cycle.specs.Cycles.{slots_of}
 use Rattle.ttx_packet.specs.Receptions.{MayBeReceivedAs}
 use Rattle.ttx_monitor.specs.Breaches.{IsSlotJudged}
 use Rattle.ttx_monitor.specs.Waiting.{waiting, IsEnough}

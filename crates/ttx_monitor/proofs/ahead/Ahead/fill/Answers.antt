@@ -1,8 +1,8 @@
-use Rattle.std.proofs.Common.{◌≡◌, ◌≤◌, ℕ, true, false, length, Option, Some, None, refl, sym, ap, ◌∙◌, arith, subst}
+use Rattle.std.proofs.Common.{◌≡◌, ℕ, false, Option, Some, None, refl, sym, ◌∙◌, arith, subst}
 use Rattle.std.specs.Option.{is_some}
 use Rattle.std.proofs.lemmas.Bool.{both_ways}
 use Rattle.ttx_cycle.specs.Counters.{inner_of}
-use Rattle.ttx_monitor.specs.Waiting.{waiting, HasOneMore}
+use Rattle.ttx_monitor.specs.Waiting.{HasOneMore}
 use Rattle.ttx_monitor.proofs.WaitingSlots.{same_left, no_more, more_more}
 use Rattle.ttx_monitor.proofs.ahead.Ahead.fill.Goals as goal
 

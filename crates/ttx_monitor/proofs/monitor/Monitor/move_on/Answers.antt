@@ -2,7 +2,6 @@ use Rattle.std.proofs.Common.{◌≡◌, ◌+◌, ◌%◌, ◌<◌, Some, length
 use Rattle.std.proofs.lemmas.Nat.{mod_below}
 use Rattle.ttx_cycle.specs.Cycles.{slots_of-IsCycle}
 use Rattle.ttx_monitor.specs.Events.{place_of, moved}
-use Rattle.ttx_monitor.specs.Slips.{place_on}
 use Rattle.ttx_monitor.proofs.FirstState.{none, first_streaks, first_kept}
 use Rattle.ttx_monitor.proofs.LongestStreaks.{first_longest}
 use Rattle.ttx_monitor.proofs.WrongBytes.{no_wrong}
