@@ -66,8 +66,8 @@ pub fn is_followed_across(old: &Cycle, new: &Cycle, page: PageId, gap: usize) ->
     }
 }
 
-// The first page of the old list that is not followed across the change.
-fn first_unfollowed(old: &Cycle, new: &Cycle, pages: &[Page], gap: usize) -> Option<PageId>
+/// The first page of the old list that is not followed across the change, as `is_followed_across` says.
+pub fn first_unfollowed(old: &Cycle, new: &Cycle, pages: &[Page], gap: usize) -> Option<PageId>
     ensures { MatchOption result (AllAreFollowedAcross (slots_of old.now) (slots_of new.now) (map page_of pages.now) gap)
         (IsFirstUnfollowed (slots_of old.now) (slots_of new.now) (map page_of pages.now) gap) }
 {

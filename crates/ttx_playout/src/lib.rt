@@ -11,6 +11,6 @@ mod state;
 
 pub use edition::Edition;
 pub use faults::{ChangeFault, StartFault};
-pub use following::is_followed_across;
+pub use following::{first_unfollowed, is_followed_across};
 pub use late_change::LateChange;
 pub use state::OnAir;

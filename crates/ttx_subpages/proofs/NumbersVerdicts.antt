@@ -8,7 +8,7 @@ use Rattle.ttx_certify.specs.Laws.{ArePages}
 use Rattle.ttx_late.specs.LateVerdicts.{IsLateVerdict}
 use Rattle.ttx_late.specs.declared.verdict.LateVerdict.TheVariants as late
 use Rattle.ttx_subpages.specs.Lacks.{IsFirstLack}
-use Rattle.ttx_subpages.specs.Laws.{AcceptedAreSeen, AcceptedAreSeenAgain, StaysAreShown}
+use Rattle.ttx_subpages.specs.Laws.{AcceptedAreSeen, AcceptedAreSeenAgain, AcceptedAreHeld, StaysAreShown}
 use Rattle.ttx_subpages.specs.Numbers.{AllSendWhole}
 use Rattle.ttx_subpages.specs.NumbersVerdicts.{verdict_with, IsNumbersVerdict, MeansNumbers}
 use Rattle.ttx_subpages.specs.declared.lack.Lack.{Lack}
@@ -29,13 +29,14 @@ module _ (cycle : List (List ℕ)) (pages : List Page) (w : Certificate) (gap : 
   exact_with None whole = (told, whole)
   exact_with (Some lack) first = (gap, told, first)
 
-  pub means_with : AcceptedAreSeen → AcceptedAreSeenAgain → StaysAreShown → IsCycle cycle → ArePages pages → IsCertificate w →
+  pub means_with : AcceptedAreSeen → AcceptedAreSeenAgain → StaysAreShown → AcceptedAreHeld → IsCycle cycle → ArePages pages → IsCertificate w →
       (lack : Option Lack) → Lacks lack → MeansNumbers cycle pages w (verdict_with gap lack)
-  means_with seen again stays is_cycle are is_certificate None whole = λ mag number several p sub.
+  means_with seen again stays held is_cycle are is_certificate None whole = λ mag number several p sub.
       let turn = seen cycle pages w is_cycle are is_certificate told.0 gap told.2.within mag number (whole mag number several) p sub in
       record {
         turn = turn;
         again = again cycle pages w is_cycle are is_certificate told.0 gap told.2.within mag number (whole mag number several) p sub;
         stays = stays (repeated cycle) pages w.class w.lines (limit w + gap) mag number p sub turn;
+        held = held cycle pages w is_cycle are is_certificate told.0 mag number p sub;
       }
-  means_with seen again stays is_cycle are is_certificate (Some lack) first = tt
+  means_with seen again stays held is_cycle are is_certificate (Some lack) first = tt

@@ -30,7 +30,8 @@ fn verdict_with(gap: usize, lack: Option<Lack>) -> NumbersVerdict
 /// If this verdict is Yes, then for each such number each of its subpages is seen in turn, whole, by whoever keys the number alone, and
 /// nothing else is: on each receiver that shows a page only where it ends, from any tuning slot, with any former memory, under each
 /// reception in which the text of the subpages comes right once a sending, whatever the certificate's repeat count. Each comes again
-/// within `greatest_interval` and the gap, and is shown as long as `least_stay` says.
+/// within `greatest_interval` and the gap, and is shown as long as `least_stay` says. Every permitted receiver, one that shows each row as it
+/// comes too, shows each of them from where its block is whole to the next header of the number.
 pub fn certify_numbers(
     alloc: Global,
     cycle: &Cycle,
@@ -43,6 +44,7 @@ pub fn certify_numbers(
     crate::laws::accepted_are_seen();
     crate::laws::accepted_are_seen_again();
     crate::laws::stays_are_shown();
+    crate::laws::accepted_are_held();
     ttx_page::laws::pages_keep_their_rules();
     ttx_witness::certificate_laws::certificates_keep_their_rules();
     let verdict = certify_late(alloc, cycle, service, certificate)?;

@@ -33,7 +33,7 @@ returns-clause-seen c =
     let w = certificate_of c.args.certificate.now in
     let told = subst (IsLateVerdict cycle pages w) c.in-Yes.is c.in_ok-verdict.ensures.exact in
     subst (MeansNumbers cycle pages w) (sym c.verdict_with.ensures)
-    (means_with cycle pages w c.in-Yes.gap told c.accepted_are_seen.ensures c.accepted_are_seen_again.ensures c.stays_are_shown.ensures
+    (means_with cycle pages w c.in-Yes.gap told c.accepted_are_seen.ensures c.accepted_are_seen_again.ensures c.stays_are_shown.ensures c.accepted_are_held.ensures
     (slots_of-IsCycle c.args.cycle.now)
     (subst ArePages c.pages.ensures.value (are_pages c.pages_keep_their_rules.ensures c.pages.result.now))
     (c.certificates_keep_their_rules.ensures c.args.certificate.now).1 c.in_ok-lack.lack

@@ -1,0 +1,2 @@
+mod JoinedNumbers
+mod LateVerdicts

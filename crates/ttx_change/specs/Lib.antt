@@ -1,0 +1,4 @@
+pub mod OldOrNew
+pub mod LateSplices
+pub mod LateSpliceLines
+pub mod LateSpliceFiles

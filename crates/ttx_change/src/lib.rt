@@ -1,0 +1,14 @@
+//! Changes for receivers that show a page only where it ends: whether one that is tuned to a page number shows an old page or a new one
+//! through the change from one cycle to another, and never a mixture of both.
+#![tactic(auto)]
+
+mod files;
+mod judging;
+pub mod laws;
+mod lines;
+mod verdict;
+
+pub use files::splice_files_late;
+pub use judging::late_splice;
+pub use lines::late_splice_line;
+pub use verdict::LateSplice;
