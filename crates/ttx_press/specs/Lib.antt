@@ -1,0 +1,5 @@
+pub mod Houses
+pub mod Editions
+pub mod Refusals
+pub mod Turns
+pub mod Presses
