@@ -1,9 +1,9 @@
 -- The indices of rows, one after another.
-use Rattle.std.proofs.Common.{◌≡◌, ◌∙◌, ℕ, suc, ◌+◌, ◌-◌, ◌<◌, ◌≤◌, List, [], ◌∷◌, ◌++◌, flat_map, ap, sym, refl, arith, append_assoc}
+use Rattle.std.proofs.Common.{◌≡◌, ◌∙◌, ℕ, suc, ◌+◌, ◌-◌, ◌<◌, ◌≤◌, List, [], ◌∷◌, ◌++◌, flat_map, ap, sym, arith, append_assoc}
 use Rattle.std.proofs.lemmas.List.{append-nil}
 use Rattle.std.specs.List.{range_with_len}
 use Rattle.toml.specs.Data.{Members}
-use Rattle.ttx_desk.specs.Rows.{indices_from, put_rows, row_put, row_mistakes, written_row}
+use Rattle.ttx_desk.specs.Rows.{indices_from, put_rows, row_put, written_row}
 use Rattle.ttx_desk.specs.declared.mistakes.Mistake.{Mistake}
 
 range-more : (index left : ℕ) → left ≡ suc (24 - (index + 1)) → range_with_len index left ≡ index ∷ range_with_len (index + 1) (24 - (index + 1))

@@ -1,5 +1,5 @@
 -- What an author writes is seen in the pages of a service that says it.
-use Rattle.std.proofs.Common.{◌≡◌, ◌∙◌, ℕ, ◌++◌, List, take, drop, length, replicate, ap, sym, Ok}
+use Rattle.std.proofs.Common.{◌≡◌, ◌∙◌, ◌++◌, take, drop, length, replicate, ap, sym, Ok}
 use Rattle.std.proofs.Math.Seq.{take-append_seam}
 use Rattle.ttx_page.specs.Memories.{memory_of_page, memory_row}
 use Rattle.ttx_page.specs.Pages.{Page}

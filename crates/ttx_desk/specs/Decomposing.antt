@@ -3,7 +3,7 @@
 --   Means                   an author's text has no mistake, and means the table that a text is
 --   IsAuthorOf              it means this table
 --   Decomposes              what is answered for a service text
-use Rattle.std.specs.Prelude.{◌≡◌, ◌⊎◌, ℕ, List, [], string_bytes, ⊤, String, Option, Some, None, Result, Ok, Err}
+use Rattle.std.specs.Prelude.{◌≡◌, ◌⊎◌, ℕ, List, [], string_bytes, ⊤, String, Some, Result, Ok, Err}
 use Rattle.toml.specs.Data.{Members}
 use Rattle.toml.specs.Parse.{parse_document}
 use Rattle.ttx_source.specs.Faults.{fault_of}

@@ -8,7 +8,7 @@ use Rattle.std.specs.Prelude.{ℕ, ◌+◌, ◌-◌, Bool, not, ◌&&◌, ◌||�
 use Rattle.std.specs.Prelude.{Option, Some, None, option_map, is_some, if◌then◌else◌}
 use Rattle.std.specs.List.{range_with_len, list_all}
 use Rattle.std.specs.Str.{chars}
-use Rattle.toml.specs.Data.{Data, Members, get_member, as_str, table}
+use Rattle.toml.specs.Data.{Data, Members, get_member, as_str}
 use Rattle.ttx_source.specs.Keys.{row_keys}
 use Rattle.ttx_desk.specs.Tables.{text_at, without}
 use Rattle.ttx_desk.specs.Lines.{line, rest_after, is_blank}

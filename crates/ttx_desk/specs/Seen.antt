@@ -6,7 +6,7 @@ use Rattle.toml.specs.Data.{Members}
 use Rattle.ttx_page.specs.Memories.{memory_of_page}
 use Rattle.ttx_page.specs.Pages.{Page}
 use Rattle.ttx_render.specs.Laws.{IsOwn}
-use Rattle.ttx_source.specs.Services.{ServiceFields, pages_of, IsService}
+use Rattle.ttx_source.specs.Services.{ServiceFields, pages_of}
 use Rattle.ttx_author.specs.Seen.{CellShows, mark_at}
 use Rattle.ttx_desk.specs.Said.{author_page, author_head, author_row, SaysTexts}
 

@@ -2,7 +2,7 @@
 --
 --   service_table           the table of the service that an author's table means
 --   mistakes                the mistakes of an author's table
-use Rattle.std.specs.Prelude.{ℕ, ◌+◌, List, [], ◌∷◌, ◌++◌, codes, Option, Some, None}
+use Rattle.std.specs.Prelude.{ℕ, ◌+◌, List, [], ◌++◌, codes, Option, Some, None}
 use Rattle.toml.specs.Data.{Data, Items, no_items, item, Members, as_table, table, array}
 use Rattle.ttx_desk.specs.Tables.{put, without, text_at, table_at, array_at}
 use Rattle.ttx_desk.specs.Texts.{text_put, text_mistakes}

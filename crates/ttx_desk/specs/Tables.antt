@@ -2,7 +2,7 @@
 --
 --   put, without            a table with a value at a key, and without a key
 --   text_at, table_at, array_at       the text, table or array at a key, where there is one
-use Rattle.std.specs.Prelude.{ℕ, List, Bool, Option, option_and_then, if◌then◌else◌}
+use Rattle.std.specs.Prelude.{ℕ, List, Option, option_and_then, if◌then◌else◌}
 use Rattle.std.specs.Ordering.{nat_cmp, match_ordering}
 use Rattle.std.specs.Cmp.Lexicographic.{slice_cmp}
 use Rattle.toml.specs.Data.{Data, Items, Members, no_members, member, get_member, same_key, as_str, as_table, as_array}

@@ -4,6 +4,39 @@ use crate::rows::row_key;
 use crate::tables::{array_at, member, put, table_at};
 use std::alloc::{AllocError, Global};
 use toml::{Table, Value};
+use ttx_digits::push_subcode;
+
+// Adds a character of a text: a control code, a quotation mark and a backslash by their escapes.
+fn push_sign(text: &mut String, c: char) -> Result<(), AllocError> {
+    if c == '"' || c == '\\' {
+        text.push('\\')?;
+        text.push(c)
+    } else if c < ' ' || c == '\u{7f}' {
+        text.push_str("\\u")?;
+        push_subcode(text, u32::from(c) as u16)
+    } else {
+        text.push(c)
+    }
+}
+
+// Adds a line for a plain key and its text.
+fn push_text(text: &mut String, key: &str, value: &str) -> Result<(), AllocError> {
+    text.push_str(key)?;
+    text.push_str(" = \"")?;
+    for c in value.chars() {
+        push_sign(text, c)?;
+    }
+    text.push_str("\"\n")
+}
+
+// Whether a key is written without quotation marks.
+fn is_plain(key: &str) -> bool {
+    !key.is_empty()
+        && key
+            .as_bytes()
+            .iter()
+            .all(|byte| byte.is_ascii_alphanumeric())
+}
 
 // Adds the lines for one key and its value.
 fn push_entry(
@@ -12,6 +45,11 @@ fn push_entry(
     key: &str,
     value: &Value,
 ) -> Result<(), AllocError> {
+    if let Some(word) = value.as_str() {
+        if is_plain(key) {
+            return push_text(text, key, word);
+        }
+    }
     let mut entry = Table::new(alloc);
     let copy = value.clone()?;
     put(alloc, &mut entry, key, copy)?;

@@ -17,6 +17,8 @@ mod codes;
 #[cfg(test)]
 mod counters;
 #[cfg(test)]
+mod desks;
+#[cfg(test)]
 mod display;
 #[cfg(test)]
 mod early_row;

@@ -1,11 +1,11 @@
-use Rattle.std.proofs.Common.{◌≡◌, ◌∙◌, ◌⊎◌, Result, Err, true, inl, inr, ap, sym, subst, ℕ, List}
+use Rattle.std.proofs.Common.{◌≡◌, ◌∙◌, ◌⊎◌, Err, true, inl, inr, ap, sym, subst, ℕ, List}
 use Rattle.std.proofs.lemmas.Str.{is_utf8-from_IsUtf8}
 use Rattle.std.specs.Str.{is_utf8}
 use Rattle.toml.specs.Parse.{parse_document}
 use Rattle.ttx_source.specs.declared.faults.SourceError.{SourceError}
 use Rattle.ttx_source.specs.Faults.{fault_of}
 use Rattle.ttx_source.specs.KeyFaults.{out_of_memory}
-use Rattle.ttx_source.specs.Services.{ServiceFields, read_bytes, service_in}
+use Rattle.ttx_source.specs.Services.{read_bytes, service_in}
 use Rattle.ttx_desk.specs.declared.composing.ComposeFault.{ComposeFault}
 use Rattle.ttx_desk.specs.declared.composing.ComposeFault.TheVariants.{NotToml, Mistakes, Service, Unsaid, NoMemory}
 use Rattle.ttx_desk.specs.Composing.{IsFaultFor, IsRefusedText}

@@ -1,4 +1,4 @@
-use Rattle.std.proofs.Common.{◌≡◌, ℕ, ◌+◌, ◌*◌, ◌≤◌, List, drop}
+use Rattle.std.proofs.Common.{◌+◌, ◌*◌, ◌≤◌, drop}
 use Rattle.toml.specs.Data.{items_depth, members_depth}
 use Rattle.toml.specs.View.{items_view, members_view}
 use Rattle.ttx_desk.proofs.depths.+depth.Given as goal

@@ -1,4 +1,4 @@
-use Rattle.std.proofs.Common.{◌≡◌, ◌∙◌, ◌+◌, ◌++◌, ℕ, ◌≤◌, List, flat_map, ap, sym, arith}
+use Rattle.std.proofs.Common.{◌∙◌, ◌+◌, ◌++◌, ℕ, List, flat_map, ap, sym, arith}
 use Rattle.toml.specs.View.{table_view}
 use Rattle.ttx_author.specs.Options.{option_number}
 use Rattle.ttx_desk.specs.Rows.{put_rows, row_mistakes, indices_from}

@@ -1,4 +1,4 @@
-use Rattle.std.proofs.Common.{◌≡◌, ◌∙◌, ℕ, ◌<◌, ◌≤◌, Some, slice_get, map, length, get_or, ap, sym, refl, subst, arith, below_more, rules}
+use Rattle.std.proofs.Common.{◌≡◌, ◌∙◌, Some, slice_get, map, ap, subst, arith, below_more, rules}
 use Rattle.toml.specs.Data.{Members}
 use Rattle.toml.specs.View.{table_view}
 use Rattle.ttx_page.specs.Pages.{Page}

@@ -1,4 +1,4 @@
-use Rattle.std.proofs.Common.{◌≡◌, ◌∙◌, ap}
+use Rattle.std.proofs.Common.{◌∙◌, ap}
 use Rattle.toml.specs.Data.{array}
 use Rattle.toml.specs.View.{items_of}
 use Rattle.toml.proofs.Views.{view-Array}

@@ -1,5 +1,4 @@
-use Rattle.std.proofs.Common.{◌≡◌, ◌∙◌, ◌+◌, ◌++◌, ℕ, List, ap, sym, arith, get_or, map, take, rules}
-use Rattle.toml.specs.View.{view}
+use Rattle.std.proofs.Common.{◌∙◌, ◌+◌, sym, arith}
 use Rattle.toml.specs.declared.value.Value.{Value}
 use Rattle.ttx_desk.proofs.PageItems.{mistakes-more, mistakes-end, values-more}
 use Rattle.ttx_desk.proofs.services.page_values.Goals as goal
