@@ -1,14 +1,18 @@
 #!/usr/bin/env python3
 """Runs `send` over cycles of random slots, and compares its output byte for byte with that of a plain sender in this script: damaged page
-headers, packets 8/30 of all designations, phases up to 2^32 - 1, midnight, and the last date with five digits. Then sends 100,000 fields
+headers, packets 8/30 of all designations, phases up to 2^32 - 1, midnight, the last date with five digits, and clocks behind UTC. Then sends
+over both changes of a time zone with summer time, whose file this script writes; sends now, by the machine's clock; and sends 100,000 fields
 of the shipped example, over midnight, and checks the clock that `receive` and `show` show.
 
 usage: sent.py PROGRAM [COUNT]
 """
+import os
 import random
+import struct
 import subprocess
 import sys
 import tempfile
+import time
 from pathlib import Path
 
 # Hamming 8/4 (EN 300 706, 8.2)
@@ -35,8 +39,8 @@ def digits(value, count):
     return [16 * a + b for a, b in zip(text[::2], text[1::2])]
 
 
-def timed(slot, mjd, second, ahead):
-    """The slot as it is sent at a given time."""
+def timed(slot, mjd, second, ahead, halves=None):
+    """The slot as it is sent at a given time; with half hours also as the local offset of packets 8/30."""
     low, high = number(slot[0]), number(slot[1])
     if not any(slot) or low is None or high is None:
         return slot
@@ -50,7 +54,8 @@ def timed(slot, mjd, second, ahead):
         utc = second // 3600 * 10000 + second // 60 % 60 * 100 + second % 60
         date = digits(mjd, 5)
         date[0] += slot[12] // 16 * 16
-        return slot[:12] + bytes(date + digits(utc, 6)) + slot[18:]
+        offset = slot[11:12] if halves is None else bytes([0x81 + 2 * abs(halves) + 64 * (halves < 0)])
+        return slot[:11] + offset + bytes(date + digits(utc, 6)) + slot[18:]
     return slot
 
 
@@ -77,6 +82,48 @@ def clock_at_end(stream, lines, second):
             now = (second + at // lines // 50) % 86400
             return f"{now // 3600:02}:{now // 60 % 60:02}:{now % 60:02}"
     return None
+
+
+def zone_file(rule):
+    """A zone in the form of TZif, version 2, with this rule for all times after 1970 (RFC 8536)."""
+    types = struct.pack(">lBB", 3600, 0, 0) + b"CET\0"
+
+    def block(size):
+        return b"TZif2" + bytes(15) + struct.pack(">6l", 0, 0, 0, 1, 1, 4) + struct.pack(f">{size}", 0) + bytes(1) + types
+
+    return block("l") + block("q") + b"\n" + rule.encode() + b"\n"
+
+
+def zoned_sendings(program, folder, cycle):
+    """What is wrong around the changes of a clock with summer time, or None."""
+    (folder / "zones/Test").mkdir(parents=True)
+    (folder / "zones/Test/Berlin").write_bytes(zone_file("CET-1CEST,M3.5.0,M10.5.0/3"))
+    # the last Sunday of March and of October 2026, 01:00 UTC; and a text by the clock, of which the second hour is skipped
+    for mjd, before, after, text in (61128, 2, 4, "2026-03-29T01:59:50"), (61338, 4, 2, "2026-10-25T00:59:50Z"):
+        for at in f"{mjd}/005950", text:
+            words = ["--at", at, "--zone", "Test/Berlin", "--fields", "1000", "--lines", "3"]
+            environment = os.environ | {"TZDIR": str(folder / "zones")}
+            ran = subprocess.run([program, "send", folder / "cycle.t42", *words], capture_output=True, env=environment, check=False)
+            wanted = bytearray()
+            for field in range(1000):
+                second = 3590 + field // 50
+                halves = before if second < 3600 else after
+                for line in range(3):
+                    wanted += timed(cycle[(3 * field + line) % len(cycle)], mjd, second, 1800 * halves, halves)
+            if ran.stdout != bytes(wanted):
+                return f"{' '.join(words)}: {ran.stderr!r}, {len(ran.stdout)} bytes"
+    return None
+
+
+def sending_now(program, folder):
+    """What is wrong with a sending that begins now, or None."""
+    # a page header without a clock
+    (folder / "header.t42").write_bytes(bytes(WORDS[n] for n in (1, 0, 0, 0, 0, 0, 0, 0, 0, 0)) + bytes([0x20]) * 32)
+    before = int(time.time())
+    made = subprocess.run([program, "send", "header.t42", "--at", "now", "--fields", "1", "--lines", "1"], cwd=folder, capture_output=True, check=True).stdout
+    clock = "".join(chr(byte % 128) for byte in made[34:42])
+    known = [time.strftime("%H:%M:%S", time.gmtime(second)) for second in range(before, int(time.time()) + 1)]
+    return None if clock in known else f"now is {clock}, and not one of {known}"
 
 
 def long_sending(program, folder):
@@ -109,9 +156,9 @@ def main():
             cycle_file.write_bytes(b"".join(cycle))
             mjd, second = chance.choice([0, 60000, 99999]), chance.choice([0, 45296, 86398, 86399])
             lines, fields = chance.randrange(1, 33), chance.choice([0, 1, 49, 50, 51, 149])
-            phase, halves = chance.choice([0, 7, 2**32 - 1]), chance.randrange(48)
+            phase, halves = chance.choice([0, 7, 2**32 - 1]), chance.randrange(-24, 48)
             at = f"{mjd:05}/{second // 3600:02}{second // 60 % 60:02}{second % 60:02}"
-            words = ["--at", at, "--fields", str(fields), "--lines", str(lines), "--phase", str(phase), "--offset", str(halves)]
+            words = ["--at", at, "--fields", str(fields), "--lines", str(lines), "--phase", str(phase), f"--offset={halves}"]
             made = subprocess.run([program, "send", str(cycle_file)] + words, capture_output=True, check=True).stdout
             wanted = bytearray()
             for field in range(fields):
@@ -122,9 +169,9 @@ def main():
                     wanted += timed(slot, day, now % 86400, 1800 * halves)
             if made != bytes(wanted):
                 sys.exit(f"sent: run {run}, {' '.join(words)}: something else is sent")
-        why = long_sending(program, Path(folder))
+        why = zoned_sendings(program, Path(folder), cycle) or sending_now(program, Path(folder)) or long_sending(program, Path(folder))
         if why:
-            sys.exit(f"sent: 100,000 fields: {why}")
+            sys.exit(f"sent: {why}")
     print(f"sent: {count} sendings, 0 failed")
 
 

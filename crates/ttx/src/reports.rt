@@ -2,7 +2,7 @@
 
 use ttx_cycle::Counted;
 use ttx_files::FilesFault;
-use ttx_tool::{ToolFault, commands};
+use ttx_tool::{AirRefusal, ToolFault, commands};
 
 // The status of a fault, also where standard error takes no line.
 const FAULT: u8 = 3;
@@ -25,6 +25,15 @@ pub fn report(rt: &HostRuntime, fault: &ToolFault) -> u8 {
     match commands::report(rt.alloc(), fault, &mut errors) {
         Ok(status) => status,
         Err(ToolFault::Files(FilesFault::NoMemory)) => memory_fault(rt),
+        Err(_) => FAULT,
+    }
+}
+
+/// Says why nothing is sent, and answers the status.
+pub fn report_refusal(rt: &HostRuntime, refusal: AirRefusal) -> u8 {
+    let mut errors = Counted::new(rt.stderr());
+    match commands::report_air(refusal, &mut errors) {
+        Ok(status) => status,
         Err(_) => FAULT,
     }
 }

@@ -6,8 +6,10 @@ mod cycles;
 mod feeds;
 mod inputs;
 mod screens;
+mod sends;
 mod services;
 mod splices;
+mod zones;
 
 use crate::reports::status_of;
 use std::io;
@@ -47,7 +49,7 @@ pub fn run_order(rt: &HostRuntime, order: &Order<'_>) -> Outcome {
         } => screens::preview(rt, service, selection, look),
         Order::Splice(order) => splices::splice(rt, order),
         Order::Wait(order) => certificates::wait(rt, order),
-        Order::Send { cycle, sending } => cycles::send(rt, cycle, sending),
+        Order::Send(order) => sends::send(rt, order),
         Order::Monitor(order) => feeds::monitor(rt, order),
         Order::Pages { cycle } => cycles::pages(rt, cycle),
         Order::Book { cycle, out } => cycles::book(rt, cycle, out),

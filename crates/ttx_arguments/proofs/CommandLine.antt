@@ -19,7 +19,7 @@ use Rattle.ttx_arguments.specs.Orders.{OrderView, Unfit, inspect_order, version_
 use Rattle.ttx_arguments.specs.Orders.{AnswersBy, IsFaultOf, IsSettled}
 use Rattle.ttx_arguments.specs.declared.orders.Order.{Order}
 use Rattle.ttx_arguments.specs.declared.orders.WordsFault.{WordsFault}
-use Rattle.ttx_arguments.specs.declared.orders.WordsFault.TheVariants.{Refused, Page, Time, Seconds, Deadlines, Within, Numbers, Twice, NoMemory}
+use Rattle.ttx_arguments.specs.declared.orders.WordsFault.TheVariants.{Refused, Page, Time, Seconds, Deadlines, Within, Numbers, Clocks, Twice, NoMemory}
 
 pub ttx_is_simple : (names : Names) → is_simple (ttx_app names) ≡ true
 unfolding ttx_app
@@ -42,6 +42,7 @@ refusal Seconds e kinds f h = f
 refusal Deadlines e kinds f h = f
 refusal Within e kinds f h = f
 refusal Numbers e kinds f h = f
+refusal Clocks e kinds f h = f
 refusal Twice e kinds f h = f
 refusal NoMemory e kinds f h = tt
 
@@ -78,6 +79,7 @@ answered app words answer (Err Seconds) some by is = asked app words _ some (sub
 answered app words answer (Err Deadlines) some by is = asked app words _ some (subst (λ (a : Result OrderView Unfit). AsksByCommand app words a) is by)
 answered app words answer (Err Within) some by is = asked app words _ some (subst (λ (a : Result OrderView Unfit). AsksByCommand app words a) is by)
 answered app words answer (Err Numbers) some by is = asked app words _ some (subst (λ (a : Result OrderView Unfit). AsksByCommand app words a) is by)
+answered app words answer (Err Clocks) some by is = asked app words _ some (subst (λ (a : Result OrderView Unfit). AsksByCommand app words a) is by)
 answered app words answer (Err Twice) some by is = asked app words _ some (subst (λ (a : Result OrderView Unfit). AsksByCommand app words a) is by)
 answered app words answer (Err (Refused error)) some by is = absurd is
 answered app words answer (Err NoMemory) some by is = absurd is
@@ -94,6 +96,7 @@ refused app words (Refused error) (Err Seconds) some h is = absurd is
 refused app words (Refused error) (Err Deadlines) some h is = absurd is
 refused app words (Refused error) (Err Within) some h is = absurd is
 refused app words (Refused error) (Err Numbers) some h is = absurd is
+refused app words (Refused error) (Err Clocks) some h is = absurd is
 refused app words (Refused error) (Err Twice) some h is = absurd is
 refused app words (Refused error) (Err NoMemory) some h is = absurd is
 refused app words Page result some h is = absurd h
@@ -102,6 +105,7 @@ refused app words Seconds result some h is = absurd h
 refused app words Deadlines result some h is = absurd h
 refused app words Within result some h is = absurd h
 refused app words Numbers result some h is = absurd h
+refused app words Clocks result some h is = absurd h
 refused app words Twice result some h is = absurd h
 refused app words NoMemory (Err NoMemory) some h is = tt
 refused app words NoMemory (Ok order) some h is = absurd is
@@ -112,6 +116,7 @@ refused app words NoMemory (Err Seconds) some h is = absurd is
 refused app words NoMemory (Err Deadlines) some h is = absurd is
 refused app words NoMemory (Err Within) some h is = absurd is
 refused app words NoMemory (Err Numbers) some h is = absurd is
+refused app words NoMemory (Err Clocks) some h is = absurd is
 refused app words NoMemory (Err Twice) some h is = absurd is
 
 -- ---- words without a fault name a command

@@ -33,7 +33,16 @@ certify_words names = (
 
 pub send_words : SendWords
 unfolding ttx_app walked bundle_met chars encode_utf8 flags_pass walk_passes flags_fault walk_fault defaults_fault Asks order_at command_named moment_of decimal_in two_decimals
-send_words names = (inl (refl, refl), inl (refl, refl))
+send_words names = (
+  inl (refl, refl),
+  inl (refl, refl),
+  inl (refl, refl),
+  inl (refl, refl),
+  inl (refl, refl),
+  inl (refl, refl),
+  refl,
+  refl,
+)
 
 pub plan_words : PlanWords
 unfolding ttx_app walked bundle_met chars encode_utf8 flags_pass walk_passes flags_fault walk_fault defaults_fault Asks order_at command_named

@@ -45,6 +45,7 @@ id_of argument.Slots = codes "slots"
 id_of argument.Fields = codes "fields"
 id_of argument.Phase = codes "phase"
 id_of argument.Offset = codes "offset"
+id_of argument.Zone = codes "zone"
 id_of argument.Sent = codes "sent"
 id_of argument.Deadline = codes "deadline"
 id_of argument.Within = codes "within"
@@ -57,6 +58,7 @@ id_of argument.Late = codes "late"
 id_of argument.Twice = codes "twice"
 id_of argument.Reveal = codes "reveal"
 id_of argument.Items = codes "items"
+id_of argument.Force = codes "force"
 
 -- Ranges of numbers are inclusive.
 abbrev pub takes_of : Argument → Takes
@@ -72,11 +74,12 @@ takes_of argument.Slots = takes.Number 0 1000000
 takes_of argument.Fields = takes.Number 0 4294967295
 takes_of argument.Phase = takes.Number 0 4294967295
 takes_of argument.Sent = takes.Number 0 4294967295
-takes_of argument.Offset = takes.Number 0 47
+takes_of argument.Offset = takes.HalfHours
 takes_of argument.Deadline = takes.Number 1 1000000
 takes_of argument.Within = takes.Text
 takes_of argument.Save = takes.Text
 takes_of argument.At = takes.Text
+takes_of argument.Zone = takes.Text
 takes_of argument.PlannedLate = takes.Nothing
 takes_of argument.Spread = takes.Nothing
 takes_of argument.Late = takes.Nothing
@@ -84,6 +87,7 @@ takes_of argument.Numbers = takes.Nothing
 takes_of argument.Twice = takes.Nothing
 takes_of argument.Reveal = takes.Nothing
 takes_of argument.Items = takes.Nothing
+takes_of argument.Force = takes.Nothing
 takes_of _ = takes.Operand
 
 -- an operand always has to be there
@@ -144,7 +148,8 @@ arguments_of command.Preview = argument.Service ∷ argument.Page ∷ argument.F
 arguments_of command.Splice =
     argument.Old ∷ argument.New ∷ argument.OldService ∷ argument.NewService ∷ argument.OldCertificate ∷ argument.NewCertificate ∷ argument.Sent ∷ []
 arguments_of command.Wait = argument.Cycle ∷ argument.Service ∷ argument.Repeat ∷ argument.Class ∷ argument.Items ∷ []
-arguments_of command.Send = argument.Cycle ∷ argument.At ∷ argument.Fields ∷ argument.Lines ∷ argument.Phase ∷ argument.Offset ∷ []
+arguments_of command.Send =
+    argument.Cycle ∷ argument.At ∷ argument.Fields ∷ argument.NeededLines ∷ argument.Phase ∷ argument.Offset ∷ argument.Zone ∷ argument.Force ∷ []
 arguments_of command.Monitor = argument.Cycle ∷ argument.Service ∷ argument.Certificate ∷ argument.Feed ∷ argument.FeedStart ∷ []
 arguments_of command.Pages = argument.Cycle ∷ []
 arguments_of command.Book = argument.Cycle ∷ argument.Book ∷ []

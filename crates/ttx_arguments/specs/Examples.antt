@@ -2,20 +2,21 @@
 --
 --   VersionWords             `--version` and `-V`, alone and before another word
 --   CertifyWords             an option without a value, seconds, and options that don't go together
---   SendWords                options with values and defaults, and a moment that isn't one
+--   SendWords                options with values and defaults, half hours at the ends of their range and beyond, a moment that isn't one, and two clocks
 --   PlanWords                two options without a value, alone and together
 --   SecondsTexts, FindWords  seconds as fields, and texts that are none; one deadline, and two
 --   RepeatWords              a number at the end of its range, and one beyond it
 --   SpliceWords              a number that need not be there
 --   MonitorWords             a slot that need not be there, and two inputs that are standard input
 --   TwiceWords               standard input for two inputs, and for a cycle that is read twice
-use Rattle.std.specs.Prelude.{◌≡◌, ℕ, Bool, List, [], ◌∷◌, ◌++◌, Option, Some, None, Ok, Err, codes, true, false}
+use Rattle.std.specs.Prelude.{◌≡◌, ℕ, pos, negsuc, Bool, List, [], ◌∷◌, ◌++◌, Option, Some, None, Ok, Err, codes, true, false}
 use Rattle.clap.specs.Words.{Text, fault_of}
-use Rattle.clap.specs.declared.error.kind.ErrorKind.TheVariants.{DisplayVersion, ValueValidation}
+use Rattle.clap.specs.declared.error.kind.ErrorKind.TheVariants.{DisplayVersion, MissingRequiredArgument, ValueValidation}
 use Rattle.ttx_page.specs.declared.class.Class.TheVariants.{Any}
 use Rattle.ttx_arguments.specs.Grammar.{ttx_app}
-use Rattle.ttx_arguments.specs.Orders.{Asks, OrderView, certify_order, find_order, monitor_order, plan_order, send_order, splice_order, no_time, no_seconds, two_deadlines, within_and_more, numbers_unfit, named_twice}
+use Rattle.ttx_arguments.specs.Orders.{Asks, OrderView, certify_order, find_order, monitor_order, plan_order, send_order, splice_order, no_time, two_clocks, no_seconds, two_deadlines, within_and_more, numbers_unfit, named_twice}
 use Rattle.ttx_arguments.specs.Seconds.{fields_of}
+use Rattle.ttx_arguments.specs.Timings.{StartView, start_now, start_utc, start_text, ClockView, clock_ahead, clock_in}
 use Rattle.ttx_arguments.specs.declared.grammar.Names.{Names}
 
 abbrev pub VersionWords : Type 0
@@ -41,12 +42,24 @@ CertifyWords =
     × Asks (ttx_app names) (certify_texts ++ codes "--late" ∷ codes "--numbers" ∷ codes "--twice" ∷ []) (Err numbers_unfit)
     × Asks (ttx_app names) (certify_texts ++ codes "--late" ∷ codes "--numbers" ∷ codes "--within" ∷ codes "1" ∷ []) (Err numbers_unfit)
 
+abbrev send_texts : Text → List Text
+send_texts at = codes "send" ∷ codes "c" ∷ codes "--at" ∷ at ∷ codes "--fields" ∷ codes "3" ∷ codes "--lines" ∷ codes "12" ∷ []
+
+abbrev sent_with : StartView → ClockView → Bool → OrderView
+sent_with start clock force =
+    send_order (codes "c") (record { start = start; clock = clock }) (record { lines = 12; phase = 0; fields = 3 }) force
+
 abbrev pub SendWords : Type 0
 SendWords =
-    (names : Names) → Asks (ttx_app names)
-    (codes "send" ∷ codes "c" ∷ codes "--at" ∷ codes "61000/235959" ∷ codes "--fields" ∷ codes "3" ∷ codes "--offset=4" ∷ [])
-    (Ok (send_order (codes "c") (record { start = (61000, 86399); offset = 4; lines = 16; phase = 0; fields = 3 })))
-    × Asks (ttx_app names) (codes "send" ∷ codes "c" ∷ codes "--at" ∷ codes "61000/235960" ∷ codes "--fields" ∷ codes "3" ∷ []) (Err no_time)
+    (names : Names) → Asks (ttx_app names) (send_texts (codes "61000/235959")) (Ok (sent_with (start_utc (61000, 86399)) (clock_ahead (pos 0)) false))
+    × Asks (ttx_app names) (send_texts (codes "61000/235959") ++ codes "--offset=-24" ∷ []) (Ok (sent_with (start_utc (61000, 86399)) (clock_ahead (negsuc 23)) false))
+    × Asks (ttx_app names) (send_texts (codes "now") ++ codes "--offset" ∷ codes "47" ∷ codes "--force" ∷ []) (Ok (sent_with start_now (clock_ahead (pos 47)) true))
+    × Asks (ttx_app names) (send_texts (codes "2026-11-25T12:00:00") ++ codes "--zone" ∷ codes "Europe/Berlin" ∷ [])
+    (Ok (sent_with (start_text (codes "2026-11-25T12:00:00")) (clock_in (codes "Europe/Berlin")) false))
+    × Asks (ttx_app names) (send_texts (codes "61000/235960")) (Err no_time)
+    × Asks (ttx_app names) (send_texts (codes "now") ++ codes "--offset=0" ∷ codes "--zone=UTC" ∷ []) (Err two_clocks)
+    × (fault_of (ttx_app names) (send_texts (codes "now") ++ codes "--offset=-25" ∷ []) ≡ ValueValidation ∷ [])
+    × (fault_of (ttx_app names) (codes "send" ∷ codes "c" ∷ codes "--at" ∷ codes "now" ∷ codes "--fields" ∷ codes "3" ∷ []) ≡ MissingRequiredArgument ∷ [])
 
 abbrev plan_texts : List Text
 plan_texts = codes "plan" ∷ codes "s" ∷ codes "o" ∷ []

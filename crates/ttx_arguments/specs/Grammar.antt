@@ -3,12 +3,12 @@
 --   AreNames, HasNames       names as `clap` holds them, wherever they lie in memory
 --   kind_names, class_names, form_names     the names that `--kind`, `--class` and `--as` take
 --   operand_rule, flag_rule  an operand, which has to be there, and an option without a value
---   parser_taking, option_rule              what the value of an option has to be, and an option with a value
+--   parser_taking, option_rule              what the value of an option has to be, and an option with a value; half hours are from -24 to 47
 --   rule_of_argument, with_arguments        an argument, and a command with arguments
 --   app_of_command, with_commands           a command, and a program with commands
 --   bare_app, ttx_app        the program alone, and with the commands of the table
 --   IsBuiltAs, Builds        what is built of a command, also where memory may run out
-use Rattle.std.specs.Prelude.{◌≡◌, Bool, List, [], ◌∷◌, codes, fold, map, true, false, Option, Some, None, Result, IfOk}
+use Rattle.std.specs.Prelude.{◌≡◌, pos, negsuc, Bool, List, [], ◌∷◌, codes, fold, map, true, false, Option, Some, None, Result, IfOk}
 use Rattle.std.specs.Borrow.{Bor}
 use Rattle.clap.specs.Words.{App, Shape, Rule, Text, app_of, new_app, new_rule, with_rule, with_subcommand}
 use Rattle.clap.specs.declared.builder.action.ArgAction.TheVariants.{SetTrue}
@@ -49,6 +49,7 @@ abbrev pub parser_taking : Names → Takes → Option ValueParser
 parser_taking names takes.Operand = None
 parser_taking names takes.Text = None
 parser_taking names (takes.Number low high) = Some (parser.Unsigned low high)
+parser_taking names takes.HalfHours = Some (parser.Signed (negsuc 23) (pos 47))
 parser_taking names takes.Kind = Some (parser.Names names.kinds)
 parser_taking names takes.Class = Some (parser.Names names.classes)
 parser_taking names takes.Form = Some (parser.Names names.forms)
@@ -62,6 +63,7 @@ rule_taking names id needed takes.Operand = operand_rule id
 rule_taking names id needed takes.Nothing = flag_rule id
 rule_taking names id needed takes.Text = option_rule id needed None
 rule_taking names id needed (takes.Number low high) = option_rule id needed (Some (parser.Unsigned low high))
+rule_taking names id needed takes.HalfHours = option_rule id needed (Some (parser.Signed (negsuc 23) (pos 47)))
 rule_taking names id needed takes.Kind = option_rule id needed (Some (parser.Names names.kinds))
 rule_taking names id needed takes.Class = option_rule id needed (Some (parser.Names names.classes))
 rule_taking names id needed takes.Form = option_rule id needed (Some (parser.Names names.forms))

@@ -1,7 +1,9 @@
 pub mod Grammar
 pub mod Orders
+pub mod Numbers
 pub mod PageNames
 pub mod Moments
+pub mod Timings
 pub mod Seconds
 pub mod Arguments
 pub mod Examples

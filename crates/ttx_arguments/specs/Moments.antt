@@ -2,8 +2,8 @@
 --
 --   below                   a number below a limit
 --   date_of, second_of      five digits of the date; the second of the day, of six digits
---   moment_of               the date and the second that a text names
-use Rattle.std.specs.Prelude.{ℕ, List, Option, Some, None, ◌&&◌, ◌==◌, nat_lt, length, slice_index, if◌then◌else◌}
+--   is_dated, moment_of     a text of this form; the date and the second that it names
+use Rattle.std.specs.Prelude.{ℕ, Bool, List, Option, Some, None, ◌&&◌, ◌==◌, nat_lt, length, slice_index, if◌then◌else◌}
 use Rattle.ttx_digits.specs.Digits.{decimal_in, two_decimals, joined_digits}
 
 abbrev pub below : ℕ → Option ℕ → Option ℕ
@@ -24,5 +24,8 @@ moment_when (Some date) None = None
 moment_when (Some date) (Some second) = Some (date, second)
 
 -- twelve characters, of which the sixth is a slash (2F)
+abbrev pub is_dated : List ℕ → Bool
+is_dated text = (length text == 12) && (slice_index text 5 == 47)
+
 unfoldable pub moment_of : List ℕ → Option (ℕ × ℕ)
-moment_of text = if (length text == 12) && (slice_index text 5 == 47) then moment_when (date_of text) (second_of text) else None
+moment_of text = if is_dated text then moment_when (date_of text) (second_of text) else None

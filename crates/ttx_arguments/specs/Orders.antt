@@ -4,6 +4,7 @@
 --   OrderView, order_view    an order, its texts as bytes
 --   given_at, text_at, number_given, number_at      the text and the number that a parse gives an argument
 --   kind_named, class_named, form_named     a kind of receiver, a class and a form by its name
+--   clock_at, sending_at     the clock in page headers, and the fields that `send` sends
 --   is_set                   whether an option without a value is given
 --   is_cycle_twice, is_twice        a cycle that is read twice, or more than one input, is standard input
 --   order_by, order_at       the order of a command with its values, or why there is none
@@ -11,11 +12,8 @@
 --   Refuses, Answers         what is answered for words
 --   IsFaultOf, IsSettled     an error of `clap` by its own name, and what is made of it
 use Rattle.std.specs.Prelude.{◌≡◌, ◌≢◌, ◌≤◌, ◌⊎◌, ℕ, Bool, true, false, not, ◌&&◌, ◌||◌, List, [], ◌∷◌, ⊤, Option, Some, None, option_map, option_and_then, Result, Ok, Err, codes}
-use Rattle.std.specs.Prelude.{unwrap_or, length, count_by, nat_lt, nat_le, if◌then◌else◌}
-use Rattle.std.specs.List.{list_all}
+use Rattle.std.specs.Prelude.{unwrap_or, count_by, nat_lt, nat_le, if◌then◌else◌, ℤ, pos}
 use Rattle.std.specs.Str.{bytes_eq}
-use Rattle.std.specs.Str.Parse.{digits_value, without_leading_plus}
-use Rattle.std.specs.Char.{digit_value}
 use Rattle.clap.specs.Words.{App, Row, Text, Kinds, IsAmong, first_of, subcommand_of, fault_of, kind_of}
 use Rattle.clap.specs.declared.error.Error.{Error}
 use Rattle.clap.specs.declared.error.kind.ErrorKind.TheVariants.{OutOfMemory, DisplayVersion}
@@ -30,7 +28,8 @@ use Rattle.ttx_arguments.specs.declared.arguments.Takes.{Takes}
 use Rattle.ttx_arguments.specs.declared.arguments.Takes.TheVariants as takes
 use Rattle.ttx_arguments.specs.declared.grammar.Names.{Names}
 use Rattle.ttx_arguments.specs.PageNames.{selection_of}
-use Rattle.ttx_arguments.specs.Moments.{moment_of}
+use Rattle.ttx_arguments.specs.Timings.{StartView, start_named, ClockView, clock_ahead, clock_in, TimingView, timing_view, signed_numeral, half_hours}
+use Rattle.ttx_arguments.specs.Numbers.{numeral}
 use Rattle.ttx_arguments.specs.Seconds.{fields_of}
 use Rattle.ttx_picture.specs.declared.forms.Form.{Form}
 use Rattle.ttx_picture.specs.declared.forms.Form.TheVariants as form
@@ -45,7 +44,7 @@ use Rattle.ttx_arguments.specs.declared.orders.ReceiverKind.TheVariants.{Eager, 
 use Rattle.ttx_arguments.specs.declared.orders.Sending.{Sending}
 use Rattle.ttx_arguments.specs.declared.orders.Tuning.{Tuning}
 use Rattle.ttx_arguments.specs.declared.orders.WordsFault.{WordsFault}
-use Rattle.ttx_arguments.specs.declared.orders.WordsFault.TheVariants.{Refused, Page, Time, Seconds, Deadlines, Within, Numbers, Twice, NoMemory}
+use Rattle.ttx_arguments.specs.declared.orders.WordsFault.TheVariants.{Refused, Page, Time, Seconds, Deadlines, Within, Numbers, Clocks, Twice, NoMemory}
 
 -- how a page is shown, its name as bytes
 pub record LookView : Type 0 where
@@ -69,7 +68,7 @@ pub data OrderView : Type 0 where
   preview_order : (service : Text) → (selection : Selection) → (look : LookView) → OrderView
   splice_order : (old new old_service new_service old_certificate new_certificate : Text) → (sent : Option ℕ) → OrderView
   wait_order : (cycle service : Text) → (repeat : ℕ) → (class : Class) → (items : Bool) → OrderView
-  send_order : (cycle : Text) → (sending : Sending) → OrderView
+  send_order : (cycle : Text) → (timing : TimingView) → (sending : Sending) → (force : Bool) → OrderView
   monitor_order : (cycle service certificate feed : Text) → (start : Option ℕ) → OrderView
   pages_order : (cycle : Text) → OrderView
   book_order : (cycle out : Text) → OrderView
@@ -90,7 +89,7 @@ order_view (Preview service selection look) = preview_order service.now selectio
 order_view (Splice o) =
     splice_order o.old.now o.new.now o.old_service.now o.new_service.now o.old_certificate.now o.new_certificate.now o.sent
 order_view (Wait o) = wait_order o.cycle.now o.service.now o.repeat o.class o.items
-order_view (Send cycle sending) = send_order cycle.now sending
+order_view (Send o) = send_order o.cycle.now (timing_view o.timing) o.sending o.force
 order_view (Monitor o) = monitor_order o.cycle.now o.service.now o.certificate.now o.feed.now o.start
 order_view (Pages cycle) = pages_order cycle.now
 order_view (Book cycle out) = book_order cycle.now out.now
@@ -105,16 +104,6 @@ given_at argument rows = first_of (id_of argument) rows
 -- A parse gives one to each operand.
 abbrev pub text_at : Argument → List Row → Text
 text_at argument rows = unwrap_or (given_at argument rows) []
-
--- decimal digits, after a plus or not
-abbrev pub is_numeral : List ℕ → Bool
-is_numeral digits = nat_lt 0 (length digits) && list_all (λ d. nat_lt (digit_value d) 10) digits
-
--- the number below 2^32 that a text is
-abbrev pub numeral : Text → Option ℕ
-numeral text =
-    let digits = without_leading_plus text in
-    if is_numeral digits && nat_lt (digits_value 10 digits) 4294967296 then Some (digits_value 10 digits) else None
 
 -- a number in the range that an option takes
 abbrev pub IsInside : Takes → ℕ → Type 0
@@ -170,6 +159,7 @@ pub data Unfit : Type 0 where
   two_deadlines : Unfit
   within_and_more : Unfit
   numbers_unfit : Unfit
+  two_clocks : Unfit
   named_twice : Unfit
 
 abbrev pub tuning_asked : Selection → List Row → Tuning
@@ -295,21 +285,34 @@ extract_at rows = extract_order (text_at argument.Cycle rows) (text_at argument.
 abbrev pub check_at : List Row → OrderView
 check_at rows = check_order (text_at argument.Service rows)
 
-abbrev pub sending_at : ℕ × ℕ → List Row → Sending
-sending_at start rows = record {
-  start = start;
-  offset = number_at argument.Offset 0 rows;
+abbrev pub half_hours_given : List Row → Option ℤ
+half_hours_given rows = option_and_then half_hours (option_and_then signed_numeral (given_at argument.Offset rows))
+
+-- a clock so many half hours ahead of UTC, or of a time zone, or UTC, but not two of them
+abbrev pub clock_by : Option ℤ → Option Text → Option ClockView
+clock_by None None = Some (clock_ahead (pos 0))
+clock_by (Some offset) None = Some (clock_ahead offset)
+clock_by None (Some zone) = Some (clock_in zone)
+clock_by (Some offset) (Some zone) = None
+
+abbrev pub clock_at : List Row → Option ClockView
+clock_at rows = clock_by (half_hours_given rows) (given_at argument.Zone rows)
+
+abbrev pub sending_at : List Row → Sending
+sending_at rows = record {
   lines = lines_at rows;
   phase = number_at argument.Phase 0 rows;
   fields = number_at argument.Fields 0 rows;
 }
 
-abbrev pub send_by : Option (ℕ × ℕ) → List Row → Result OrderView Unfit
-send_by None rows = Err no_time
-send_by (Some moment) rows = Ok (send_order (text_at argument.Cycle rows) (sending_at moment rows))
+abbrev pub send_by : Option StartView → Option ClockView → List Row → Result OrderView Unfit
+send_by None clock rows = Err no_time
+send_by (Some start) None rows = Err two_clocks
+send_by (Some start) (Some clock) rows =
+    Ok (send_order (text_at argument.Cycle rows) (record { start = start; clock = clock }) (sending_at rows) (is_set argument.Force rows))
 
 abbrev pub send_at : List Row → Result OrderView Unfit
-send_at rows = send_by (moment_of (text_at argument.At rows)) rows
+send_at rows = send_by (start_named (text_at argument.At rows)) (clock_at rows) rows
 
 abbrev pub is_standard : Argument → List Row → Bool
 is_standard argument rows = bytes_eq (text_at argument rows) (codes "-")
@@ -379,6 +382,7 @@ AnswersBy app words (Err Seconds) = Asks app words (Err no_seconds)
 AnswersBy app words (Err Deadlines) = Asks app words (Err two_deadlines)
 AnswersBy app words (Err Within) = Asks app words (Err within_and_more)
 AnswersBy app words (Err Numbers) = Asks app words (Err numbers_unfit)
+AnswersBy app words (Err Clocks) = Asks app words (Err two_clocks)
 AnswersBy app words (Err Twice) = Asks app words (Err named_twice)
 AnswersBy app words (Err NoMemory) = ⊤
 
@@ -395,6 +399,7 @@ IsOrderOf (Err Seconds) answer = answer ≡ Err no_seconds
 IsOrderOf (Err Deadlines) answer = answer ≡ Err two_deadlines
 IsOrderOf (Err Within) answer = answer ≡ Err within_and_more
 IsOrderOf (Err Numbers) answer = answer ≡ Err numbers_unfit
+IsOrderOf (Err Clocks) answer = answer ≡ Err two_clocks
 IsOrderOf (Err (Refused error)) answer = ⊥
 IsOrderOf (Err Twice) answer = answer ≡ Err named_twice
 IsOrderOf (Err NoMemory) answer = ⊥
@@ -408,6 +413,7 @@ IsRefusalOf Seconds kinds = ⊥
 IsRefusalOf Deadlines kinds = ⊥
 IsRefusalOf Within kinds = ⊥
 IsRefusalOf Numbers kinds = ⊥
+IsRefusalOf Clocks kinds = ⊥
 IsRefusalOf Twice kinds = ⊥
 IsRefusalOf NoMemory kinds = ⊤
 
@@ -420,6 +426,7 @@ IsFaultOf Seconds e = ⊥
 IsFaultOf Deadlines e = ⊥
 IsFaultOf Within e = ⊥
 IsFaultOf Numbers e = ⊥
+IsFaultOf Clocks e = ⊥
 IsFaultOf Twice e = ⊥
 IsFaultOf NoMemory e = kind_of e ≡ OutOfMemory
 
@@ -434,5 +441,6 @@ IsSettled Seconds (Err Seconds) = ⊤
 IsSettled Deadlines (Err Deadlines) = ⊤
 IsSettled Within (Err Within) = ⊤
 IsSettled Numbers (Err Numbers) = ⊤
+IsSettled Clocks (Err Clocks) = ⊤
 IsSettled Twice (Err Twice) = ⊤
 IsSettled _ _ = ⊥

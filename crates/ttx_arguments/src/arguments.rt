@@ -5,12 +5,13 @@ ghost use Rattle.ttx_arguments.specs.Arguments as rule;
 
 use crate::help;
 
-/// What an argument takes: it is an operand, or an option with any text, a number from low to high, a name of a list, or nothing.
+/// What an argument takes: it is an operand, or an option with any text, a number from low to high, half hours, a name of a list, or nothing.
 #[derive(Clone, Copy)]
 pub enum Takes {
     Operand,
     Text,
     Number(u64, u64),
+    HalfHours,
     Kind,
     Class,
     Form,
@@ -49,6 +50,7 @@ pub enum Argument {
     Fields,
     Phase,
     Offset,
+    Zone,
     Sent,
     Deadline,
     Within,
@@ -61,6 +63,7 @@ pub enum Argument {
     Twice,
     Reveal,
     Items,
+    Force,
 }
 
 impl Argument {
@@ -93,6 +96,7 @@ impl Argument {
             Argument::Fields => "fields",
             Argument::Phase => "phase",
             Argument::Offset => "offset",
+            Argument::Zone => "zone",
             Argument::Sent => "sent",
             Argument::Deadline => "deadline",
             Argument::Within => "within",
@@ -104,6 +108,7 @@ impl Argument {
             Argument::Twice => "twice",
             Argument::Reveal => "reveal",
             Argument::Items => "items",
+            Argument::Force => "force",
         }
     }
 
@@ -137,17 +142,19 @@ impl Argument {
             Argument::Slots | Argument::Fields => "N",
             Argument::Phase => "F",
             Argument::Offset => "HALVES",
+            Argument::Zone => "ZONE",
             Argument::Sent => "PERIODS",
             Argument::Deadline => "FIELDS",
             Argument::Within => "SECONDS",
-            Argument::At => "MJD/HHMMSS",
+            Argument::At => "TIME",
             Argument::PlannedLate
             | Argument::Spread
             | Argument::Late
             | Argument::Numbers
             | Argument::Twice
             | Argument::Reveal
-            | Argument::Items => "",
+            | Argument::Items
+            | Argument::Force => "",
         }
     }
 
@@ -182,6 +189,7 @@ impl Argument {
             Argument::Fields => help::FIELDS_OPTION,
             Argument::Phase => help::PHASE_OPTION,
             Argument::Offset => help::OFFSET_OPTION,
+            Argument::Zone => help::ZONE_OPTION,
             Argument::Sent => help::SENT_OPTION,
             Argument::Deadline => help::DEADLINE_OPTION,
             Argument::Within => help::WITHIN_OPTION,
@@ -194,6 +202,7 @@ impl Argument {
             Argument::Twice => help::TWICE_OPTION,
             Argument::Reveal => help::REVEAL_OPTION,
             Argument::Items => help::ITEMS_OPTION,
+            Argument::Force => help::FORCE_OPTION,
         }
     }
 
@@ -210,16 +219,17 @@ impl Argument {
             Argument::Start | Argument::FeedStart => Takes::Number(0, 65_535),
             Argument::Slots => Takes::Number(0, 1_000_000),
             Argument::Fields | Argument::Phase | Argument::Sent => Takes::Number(0, 4_294_967_295),
-            Argument::Offset => Takes::Number(0, 47),
+            Argument::Offset => Takes::HalfHours,
             Argument::Deadline => Takes::Number(1, 1_000_000),
-            Argument::Within | Argument::Save | Argument::At => Takes::Text,
+            Argument::Within | Argument::Save | Argument::At | Argument::Zone => Takes::Text,
             Argument::PlannedLate
             | Argument::Spread
             | Argument::Late
             | Argument::Numbers
             | Argument::Twice
             | Argument::Reveal
-            | Argument::Items => Takes::Nothing,
+            | Argument::Items
+            | Argument::Force => Takes::Nothing,
             _ => Takes::Operand,
         }
     }

@@ -169,7 +169,10 @@ impl CommandName {
                 Argument::NewService, Argument::OldCertificate, Argument::NewCertificate, Argument::Sent,
             ],
             CommandName::Wait => &[Argument::Cycle, Argument::Service, Argument::Repeat, Argument::Class, Argument::Items],
-            CommandName::Send => &[Argument::Cycle, Argument::At, Argument::Fields, Argument::Lines, Argument::Phase, Argument::Offset],
+            CommandName::Send => &[
+                Argument::Cycle, Argument::At, Argument::Fields, Argument::NeededLines,
+                Argument::Phase, Argument::Offset, Argument::Zone, Argument::Force,
+            ],
             CommandName::Monitor => &[
                 Argument::Cycle, Argument::Service, Argument::Certificate,
                 Argument::Feed, Argument::FeedStart,

@@ -10,14 +10,14 @@ ghost use Rattle.ttx_arguments.specs.Orders.{is_standard, is_cycle_twice};
 
 use crate::arguments::Argument;
 use crate::command_names::CommandName;
-use crate::moments::moment_of;
 use crate::orders::{
-    CertifyOrder, FindOrder, MonitorOrder, Order, PlanOrder, RefuteOrder, ReplayOrder, SpliceOrder,
-    WaitOrder, WordsFault,
+    CertifyOrder, FindOrder, MonitorOrder, Order, PlanOrder, RefuteOrder, ReplayOrder, SendOrder,
+    SpliceOrder, Timing, WaitOrder, WordsFault,
 };
 use crate::page_names::selection;
 use crate::ranges::Fields;
 use crate::seconds::fields_of;
+use crate::timings::{clock_of, start_of};
 use crate::values::{
     class_of, deadline_of, given, given_number, is_set, lines_of, look_of, repeat_of, sending_of,
     text_of, tuning_of,
@@ -292,11 +292,15 @@ pub(crate) fn check_of<'a>(values: &ArgMatches<'a>) -> Order<'a>
 pub(crate) fn send_of<'a>(values: &ArgMatches<'a>) -> Result<Order<'a>, WordsFault>
     ensures { IsOrderOf result (send_at (rows_of (found_of values.now))) }
 {
-    match moment_of(text_of(values, Argument::At)) {
-        None => Err(WordsFault::Time),
-        Some(moment) => Ok(Order::Send {
+    let start = start_of(text_of(values, Argument::At));
+    match (start, clock_of(values)) {
+        (None, _) => Err(WordsFault::Time),
+        (Some(_), None) => Err(WordsFault::Clocks),
+        (Some(start), Some(clock)) => Ok(Order::Send(SendOrder {
             cycle: text_of(values, Argument::Cycle),
-            sending: sending_of(values, moment),
-        }),
+            timing: Timing { start, clock },
+            sending: sending_of(values),
+            force: is_set(values, Argument::Force),
+        })),
     }
 }

@@ -31,6 +31,7 @@ fn parser_of<'a>(takes: Takes, names: Names<'a>) -> Option<ValueParser<'a>>
 {
     match takes {
         Takes::Number(low, high) => Some(ValueParser::unsigned(low, high)),
+        Takes::HalfHours => Some(ValueParser::signed(-24, 47)),
         Takes::Kind => Some(ValueParser::Names(names.kinds)),
         Takes::Class => Some(ValueParser::Names(names.classes)),
         Takes::Form => Some(ValueParser::Names(names.forms)),

@@ -388,18 +388,36 @@ pub(crate) const ITEMS_OPTION: &str = "Write a line for each item of each page, 
 
 pub(crate) const SEND_MORE: &str =
     "Reads CYCLE to its end. Writes N fields of L slots of 42 bytes each: the cycle
-again and again, from its field F on. The first field is sent at MJD/HHMMSS, and
-each second has 50 fields. Each page header shows the clock, and each packet
-8/30 format 1 has the date and time in UTC. Everything else is sent as it is in
+again and again, from its field F on. The first field is sent at TIME, and each
+second has 50 fields. Each page header shows the clock, and each packet 8/30
+format 1 has the date and time in UTC. Everything else is sent as it is in
 CYCLE, also the offset in packets 8/30. An empty slot is written as 42 zero
 bytes; the sender must leave that line without a packet.
+
+TIME is one of
+  now                        when ttx is started, by the clock of the machine
+  MJD/HHMMSS                 in UTC: five digits of the Modified Julian Date, and
+                             six of the time
+  2026-11-25T12:00:00        by the clock in page headers: that of --zone or
+                             --offset, or UTC
+  2026-11-25T12:00:00Z       in UTC
+  2026-11-25T12:00:00+01:00  by a clock that is so many hours and minutes ahead
+                             of UTC
+
+The clock in page headers is UTC, unless there is --zone or --offset. With
+--zone it keeps the rules of the time zone, summer time included, as they stand
+in the files below /usr/share/zoneinfo, or below TZDIR if that is set. A time
+that the clock shows twice is the earlier one; one that it skips counts by the
+offset before.
 
 A yes of certify also holds for what send writes, if L is the number of lines in
 the certificate.
 
 Statuses:
   0  done
-  2  error: .. (the arguments), refused: time,
+  2  error: .. (the arguments), refused: time, refused: clocks (--zone and
+     --offset), refused: zone (there is no such time zone),
+     refused: terminal (packets would go to a terminal, without --force),
      refused: cycle 2 truncated REST,
      refused: cycle 3 empty, refused: cycle 4 too-long
   3  fault: file, fault: read, fault: write (also if the reader of a pipe has
@@ -629,14 +647,18 @@ pub(crate) const SENT_OPTION: &str = "Whole periods for which OLD has been on th
 pub(crate) const SAVE_OPTION: &str = "Counter-run to write, a text; created or emptied, and left
 empty if there is none";
 
-pub(crate) const AT_OPTION: &str = "When the first field is sent, in UTC: five digits of
-the Modified Julian Date, and six of the time";
+pub(crate) const AT_OPTION: &str = "When the first field is sent, see below";
 
 pub(crate) const FIELDS_OPTION: &str = "How many fields to send, 0 to 4294967295";
 
 pub(crate) const PHASE_OPTION: &str = "Field of the repeated cycle to begin at,
 0 to 4294967295 [default: 0]";
 
-pub(crate) const OFFSET_OPTION: &str = "Local time for page headers, in half hours ahead of
-UTC, 0 to 47; for H half hours behind, give 48 - H
+pub(crate) const OFFSET_OPTION: &str = "Clock in page headers, in half hours ahead of UTC,
+-24 to 47; below 0 with =, as in --offset=-2
 [default: 0]";
+
+pub(crate) const ZONE_OPTION: &str = "Clock in page headers, by its time zone, such as
+Europe/Berlin; not with --offset";
+
+pub(crate) const FORCE_OPTION: &str = "Write packets also to a terminal";

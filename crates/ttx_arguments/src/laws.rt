@@ -13,7 +13,8 @@ pub fn certify_words()
     ensures { CertifyWords }
 {}
 
-/// `send` takes the moment, the fields and the offset, and the defaults of the others; second 60 is refused.
+/// `send` takes a moment, `now` or another text for a time, half hours from -24 to 47 or the name of a time zone, and the defaults of the others; second 60
+/// is refused, and so are two clocks. It needs the lines of a field.
 pub fn send_words()
     ensures { SendWords }
 {}

@@ -13,6 +13,7 @@ mod page_names;
 mod parsing;
 mod ranges;
 mod seconds;
+mod timings;
 mod values;
 
 pub use laws::{
@@ -21,8 +22,9 @@ pub use laws::{
 };
 pub use moments::Moment;
 pub use orders::{
-    CertifyOrder, FindOrder, Look, MonitorOrder, Order, PlanOrder, ReceiverKind, RefuteOrder,
-    ReplayOrder, Sending, SpliceOrder, Tuning, WaitOrder, WordsFault,
+    CertifyOrder, Clock, FindOrder, Look, MonitorOrder, Order, PlanOrder, ReceiverKind,
+    RefuteOrder, ReplayOrder, SendOrder, Sending, SpliceOrder, Start, Timing, Tuning, WaitOrder,
+    WordsFault,
 };
 pub use parsing::words;
 pub use ranges::{Fields, Lines, Offset, Repeat};

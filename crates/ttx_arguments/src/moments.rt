@@ -81,13 +81,20 @@ fn second(text: &[u8]) -> Option<u32>
     Some(3600 * hours + (60 * minutes + seconds))
 }
 
+/// Whether a text has the form of `MJD/HHMMSS`.
+pub(crate) fn is_dated(text: &[u8]) -> bool
+    ensures { result ≡ rule.is_dated text.now }
+{
+    text.len() == 12 && text[5] == b'/'
+}
+
 /// The moment that `MJD/HHMMSS` names.
 #[tactic(auto, unfolding(crate::specs::Moments::moment_of))]
 pub(crate) fn moment_of(text: &str) -> Option<Moment>
     ensures { result ≡ moment_of text.now }
 {
     let text = text.as_bytes();
-    if text.len() != 12 || text[5] != b'/' {
+    if !is_dated(text) {
         return None;
     }
     let mjd = date(text)?;

@@ -35,18 +35,51 @@ pub struct Look<'a> {
     pub reveal: bool,
 }
 
-/// What `send` is told beside the cycle.
+/// When the first field is sent.
+#[derive(Clone, Copy)]
+pub enum Start<'a> {
+    /// When the program asks the machine's clock.
+    Now,
+    /// At this date and second of its day, in UTC.
+    Utc(Moment),
+    /// At the time that a text names, in UTC or by the clock of the sending.
+    Named(&'a str),
+}
+
+/// The clock in page headers.
+#[derive(Clone, Copy)]
+pub enum Clock<'a> {
+    /// It is ahead of UTC by so much, all the year.
+    Ahead(Offset),
+    /// It keeps the rules of the time zone of this name.
+    Zone(&'a str),
+}
+
+/// When a sending begins, and which clock its page headers show.
+#[derive(Clone, Copy)]
+pub struct Timing<'a> {
+    pub start: Start<'a>,
+    pub clock: Clock<'a>,
+}
+
+/// Which fields `send` sends.
 #[derive(Clone, Copy)]
 pub struct Sending {
-    /// When the first field is sent.
-    pub start: Moment,
-    /// By how much the clock in page headers is ahead of UTC.
-    pub offset: Offset,
     pub lines: Lines,
     /// The field of the repeated cycle to begin at.
     pub phase: u32,
     /// How many fields are sent.
     pub fields: u32,
+}
+
+/// What `send` is asked for.
+#[derive(Clone, Copy)]
+pub struct SendOrder<'a> {
+    pub cycle: &'a str,
+    pub timing: Timing<'a>,
+    pub sending: Sending,
+    /// Whether packets are written to a terminal, too.
+    pub force: bool,
 }
 
 /// What `plan` is asked for.
@@ -182,10 +215,7 @@ pub enum Order<'a> {
     /// Tell how long viewers of each page of a service wait.
     Wait(WaitOrder<'a>),
     /// Send a cycle again and again, with the time.
-    Send {
-        cycle: &'a str,
-        sending: Sending,
-    },
+    Send(SendOrder<'a>),
     /// Judge what a receiver got of a cycle.
     Monitor(MonitorOrder<'a>),
     /// Tell which pages a cycle has.
@@ -222,7 +252,7 @@ pub enum WordsFault {
     Twice,
     /// 4. A growth was refused.
     NoMemory,
-    /// 5. A moment isn't `MJD/HHMMSS`.
+    /// 5. A moment isn't `MJD/HHMMSS`, `now` or an ISO date and time.
     Time,
     /// 6. Seconds aren't a number from 0.02 to 20000 with at most two decimals.
     Seconds,
@@ -232,4 +262,6 @@ pub enum WordsFault {
     Within,
     /// 9. `certify` is asked for page numbers, but not for late receivers, or for a time within which pages are seen, or to read the cycle twice.
     Numbers,
+    /// 10. The clock in page headers is given as half hours and as a time zone.
+    Clocks,
 }

@@ -1,6 +1,6 @@
 //! Numbers of options, each inside its range.
 
-ghost use Rattle.std.specs.Prelude.{◌≡◌, ◌≤◌, ◌*◌};
+ghost use Rattle.std.specs.Prelude.{◌≡◌, ◌≤◌, ◌≤ℤ◌, ◌*ℤ◌, pos, negsuc};
 
 use std::marker::Model;
 
@@ -115,38 +115,39 @@ impl Fields {
     }
 }
 
-/// By how many half hours the clock in page headers is ahead of UTC, 0 to 47.
+/// By how many half hours the clock in page headers is ahead of UTC, -24 to 47.
 #[derive(Clone, Copy)]
 pub struct Offset {
-    half_hours: u8,
+    half_hours: i8,
 }
 
 impl Model for Offset {
-    ghost use Rattle.std.specs.Prelude.{◌≤◌, ℕ};
+    ghost use Rattle.std.specs.Prelude.{◌≤ℤ◌, ℤ, pos, negsuc};
 
-    ghost Value = { ℕ };
+    ghost Value = { ℤ };
 
     ghost view = { λ o. o.half_hours };
 
     ghost inverse = { λ n. record { half_hours = n } };
 
-    ghost invariant = { λ o. o.half_hours ≤ 47 };
+    ghost invariant = { λ o. (negsuc 23 ≤ℤ o.half_hours) × (o.half_hours ≤ℤ pos 47) };
 }
 
 impl Offset {
     // So many half hours.
-    pub(crate) fn new(half_hours: u8) -> Offset
-        requires { half_hours ≤ 47 }
+    pub(crate) fn new(half_hours: i8) -> Offset
+        requires { (negsuc 23 ≤ℤ half_hours) × (half_hours ≤ℤ pos 47) }
         ensures { result ≡ half_hours }
     {
         Offset { half_hours }
     }
 
-    /// The same in seconds, below 86,400.
-    pub fn seconds(&self) -> u32
-        ensures value { result ≡ 1800 * self.now }
-        ensures to { result ≤ 84600 }
+    /// The same in seconds, -43,200 to 84,600.
+    pub fn seconds(&self) -> i32
+        ensures value { result ≡ pos 1800 *ℤ self.now }
+        ensures from { negsuc 43199 ≤ℤ result }
+        ensures to { result ≤ℤ pos 84600 }
     {
-        1800 * u32::from(self.half_hours)
+        1800 * i32::from(self.half_hours)
     }
 }

@@ -3,15 +3,15 @@
 ghost use Rattle.std.specs.Prelude.{◌≡◌, IfSome, option_map};
 ghost use Rattle.clap.specs.Words.{rows_of, found_of};
 ghost use Rattle.ttx_arguments.specs.Arguments.{takes_of};
+ghost use Rattle.ttx_arguments.specs.Numbers.{numeral};
 ghost use Rattle.ttx_arguments.specs.Orders as rule;
 ghost use Rattle.ttx_arguments.specs.Orders.{look_view, given_at, text_at, kind_named, class_named, form_named, is_set, tuning_asked, look_at, sending_at};
 ghost use Rattle.ttx_arguments.specs.Orders.{IsInside, number_given, number_at, lines_at, repeat_at};
 ghost use Rattle.ttx_arguments.specs.declared.arguments.Argument.TheVariants as argument;
 
 use crate::arguments::{Argument, Takes};
-use crate::moments::Moment;
 use crate::orders::{Look, ReceiverKind, Sending, Tuning};
-use crate::ranges::{Fields, Lines, Offset, Repeat};
+use crate::ranges::{Fields, Lines, Repeat};
 use clap::ArgMatches;
 use ttx_page::{Class, Selection};
 use ttx_picture::Form;
@@ -34,7 +34,7 @@ pub(crate) fn text_of<'a>(values: &ArgMatches<'a>, argument: Argument) -> &'a st
 
 // The number that a text is.
 fn numeral(text: &str) -> Option<u32>
-    ensures { result ≡ rule.numeral text.now }
+    ensures { result ≡ numeral text.now }
 {
     text.parse().ok()
 }
@@ -95,12 +95,6 @@ pub(crate) fn deadline_of(values: &ArgMatches<'_>) -> Option<Fields>
         Some(count) => Some(Fields::new(count)),
         None => None,
     }
-}
-
-fn offset_of(values: &ArgMatches<'_>) -> Offset
-    ensures { result ≡ number_at argument.Offset 0 (rows_of (found_of values.now)) }
-{
-    Offset::new(number_of(values, Argument::Offset, 0) as u8)
 }
 
 fn kind_of(values: &ArgMatches<'_>) -> ReceiverKind
@@ -171,13 +165,11 @@ pub(crate) fn tuning_of(values: &ArgMatches<'_>, selection: Selection) -> Tuning
     }
 }
 
-// What `send` is told of a sending that starts at this moment.
-pub(crate) fn sending_of(values: &ArgMatches<'_>, start: Moment) -> Sending
-    ensures { result ≡ sending_at start (rows_of (found_of values.now)) }
+// Which fields `send` is told to send.
+pub(crate) fn sending_of(values: &ArgMatches<'_>) -> Sending
+    ensures { result ≡ sending_at (rows_of (found_of values.now)) }
 {
     Sending {
-        start,
-        offset: offset_of(values),
         lines: lines_of(values),
         phase: number_of(values, Argument::Phase, 0),
         fields: number_of(values, Argument::Fields, 0),

@@ -1,3 +1,4 @@
+mod BegunMoments
 mod Devices
 mod AskedReceivers
 mod ReadHeaders

@@ -22,4 +22,5 @@ pub mod PlannedFiles
 pub mod PlanLaws
 pub mod Wait
 pub mod Send
+pub mod Beginnings
 pub mod Version

@@ -4,6 +4,7 @@
 --   extract_text, extract_status            what is said of a cycle of which no service text is made, and the status
 --   run_text, run_status    what is said of the text of a counter-run, and the status
 --   files_text, fault_text, fault_line      what a fault is called, of a file and of a command, and its line
+--   air_line                why nothing is sent
 --   files_status, status_of the status after it
 --   Reports, ReportsWords    what a report wrote at each answer
 use Rattle.std.specs.Prelude.{◌≡◌, ℕ, ◌<◌, List, [], ◌∷◌, ◌++◌, length, take, Option, Result, Ok, Err, codes}
@@ -27,6 +28,8 @@ use Rattle.ttx_arguments.specs.declared.orders.WordsFault.{WordsFault}
 use Rattle.ttx_arguments.specs.declared.orders.WordsFault.TheVariants as words
 use Rattle.ttx_tool.specs.declared.faults.ToolFault.{ToolFault}
 use Rattle.ttx_tool.specs.declared.faults.ToolFault.TheVariants.{Files, Plan, Class, Same, Counter, Feed}
+use Rattle.ttx_tool.specs.declared.faults.AirRefusal.{AirRefusal}
+use Rattle.ttx_tool.specs.declared.faults.AirRefusal.TheVariants as air
 use Rattle.ttx_tool.specs.declared.faults.CounterFileFault.{CounterFileFault}
 use Rattle.ttx_tool.specs.declared.faults.CounterFileFault.TheVariants as run
 
@@ -101,6 +104,12 @@ fault_text Same = codes "refused: same"
 fault_text (Counter fault) = run_text fault
 fault_text Feed = codes "fault: read"
 
+-- why nothing is sent
+abbrev pub air_line : AirRefusal → List ℕ
+air_line air.Time = codes "refused: time\n"
+air_line air.Zone = codes "refused: zone\n"
+air_line air.Terminal = codes "refused: terminal\n"
+
 abbrev pub fault_line : ToolFault → List ℕ
 fault_line fault = fault_text fault ++ 10 ∷ []
 
@@ -164,5 +173,6 @@ ReportsWords words.Seconds old new result = Reports (codes "refused: seconds" ++
 ReportsWords words.Deadlines old new result = Reports (codes "refused: deadlines" ++ 10 ∷ []) 2 old new result
 ReportsWords words.Within old new result = Reports (codes "refused: within" ++ 10 ∷ []) 2 old new result
 ReportsWords words.Numbers old new result = Reports (codes "refused: numbers" ++ 10 ∷ []) 2 old new result
+ReportsWords words.Clocks old new result = Reports (codes "refused: clocks" ++ 10 ∷ []) 2 old new result
 ReportsWords words.Twice old new result = Reports (codes "refused: twice" ++ 10 ∷ []) 2 old new result
 ReportsWords words.NoMemory old new result = Reports (fault_line (Files NoMemory)) 3 old new result

@@ -2,6 +2,7 @@
 //!
 //! `run` of a module is its command. `certify` has `run_twice` beside it, for a cycle that is read twice.
 
+pub mod beginnings;
 pub mod book;
 pub mod certify;
 pub mod certify_numbers;
@@ -28,4 +29,4 @@ pub mod splice_sent;
 pub mod version;
 pub mod wait;
 
-pub use reports::{report, report_extraction, report_words};
+pub use reports::{report, report_air, report_extraction, report_words};

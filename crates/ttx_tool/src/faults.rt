@@ -42,3 +42,14 @@ pub enum ExtractionFault {
     /// The cycle has no service text.
     Refused(ExtractFault),
 }
+
+/// Why nothing is sent, found before an input is opened.
+#[derive(Clone, Copy)]
+pub enum AirRefusal {
+    /// A text names no time on the air, or the machine's clock cannot be read.
+    Time,
+    /// There is no time zone of this name.
+    Zone,
+    /// Packets would go to a terminal.
+    Terminal,
+}

@@ -10,6 +10,6 @@ mod texts;
 mod unlike_views;
 mod views;
 
-pub use faults::{CounterFileFault, ExtractionFault, ToolFault};
+pub use faults::{AirRefusal, CounterFileFault, ExtractionFault, ToolFault};
 pub use ttx_arguments::{Look, Order, ReceiverKind, Tuning, WordsFault, words};
 pub use ttx_files::TextFile;

@@ -1,4 +1,4 @@
-//! The commands that take a cycle alone: `inspect`, `pages`, `book`, `extract`, `send`.
+//! The commands that take a cycle alone: `inspect`, `pages`, `book`, `extract`.
 
 use super::Outcome;
 use super::inputs::buffered;
@@ -6,7 +6,6 @@ use crate::devices::{Input, create_out, open_input};
 use crate::reports::{report, status_of};
 use std::fs::File;
 use std::io;
-use ttx_arguments::Sending;
 use ttx_cycle::Counted;
 use ttx_tool::{ExtractionFault, ToolFault, commands};
 
@@ -68,15 +67,4 @@ pub fn extract(rt: &HostRuntime, cycle: &str, out: &str, lines: u8) -> Outcome {
         Some(file) => Ok(status_of(rt, extract_from(rt, cycle, lines, file))),
         None => Ok(report(rt, &ToolFault::Same)),
     }
-}
-
-fn send_input(rt: &HostRuntime, input: Input, sending: &Sending) -> Result<u8, ToolFault> {
-    let mut reader = buffered(rt, input)?;
-    let mut writer = Counted::new(io::writer(rt));
-    commands::send::run(rt.alloc(), &mut reader, sending, &mut writer).map(|()| 0)
-}
-
-/// Opens the cycle, and sends it again and again, with the time.
-pub fn send(rt: &HostRuntime, cycle: &str, sending: &Sending) -> Outcome {
-    Ok(status_of(rt, send_input(rt, open_input(rt, cycle)?, sending)))
 }

@@ -8,9 +8,9 @@ ghost use Rattle.ttx_extract.specs.Refusals.{refusal_text};
 ghost use Rattle.ttx_source.specs.Faults.{fault_of};
 ghost use Rattle.ttx_tool.specs.Devices.{is_tool_write, Fails};
 ghost use Rattle.ttx_tool.specs.Reports.{service_text, service_status, certificate_refusal, extract_text, extract_status, run_text, run_status, files_text, files_status};
-ghost use Rattle.ttx_tool.specs.Reports.{refused_service, fault_line, status_of, Reports, ReportsWords};
+ghost use Rattle.ttx_tool.specs.Reports.{refused_service, air_line, fault_line, status_of, Reports, ReportsWords};
 
-use crate::faults::{CounterFileFault, ToolFault};
+use crate::faults::{AirRefusal, CounterFileFault, ToolFault};
 use std::alloc::{AllocError, Global};
 use std::io::Write;
 use ttx_arguments::WordsFault;
@@ -280,6 +280,28 @@ pub fn report_extraction<W: Write>(
     write_text(writer, line.as_str(), extract_status(fault))
 }
 
+// The line that says why nothing is sent.
+fn refused_air<'a>(refusal: AirRefusal) -> &'a str
+    ensures { result.now ≡ air_line refusal }
+{
+    match refusal {
+        AirRefusal::Time => "refused: time\n",
+        AirRefusal::Zone => "refused: zone\n",
+        AirRefusal::Terminal => "refused: terminal\n",
+    }
+}
+
+/// Writes the line that says why nothing is sent, and answers the status of the program, 2.
+///
+/// At `Write` exactly the first `written` bytes of the line went out; at each other fault the writer is as it was.
+pub fn report_air<W: Write>(refusal: AirRefusal, writer: &mut Counted<W>) -> Result<u8, ToolFault>
+    ensures line { Reports (air_line refusal) 2 (W.contents (inner_of writer.old)) (W.contents (inner_of writer.new)) result }
+    ensures faults { Fails (output (faults_of writer.old) (faults_of writer.new) ∷ []) result }
+    ensures untouched { IsUntouched is_tool_write result writer.old writer.new }
+{
+    write_text(writer, refused_air(refusal), 2)
+}
+
 /// Writes why words are refused and answers the status of the program. Of what `clap` refuses its own text is written.
 ///
 /// At `Write` exactly the first `written` bytes of the text went out; at each other fault the writer is as it was.
@@ -305,6 +327,7 @@ pub fn report_words<W: Write>(
         WordsFault::Deadlines => write_text(writer, "refused: deadlines\n", 2),
         WordsFault::Within => write_text(writer, "refused: within\n", 2),
         WordsFault::Numbers => write_text(writer, "refused: numbers\n", 2),
+        WordsFault::Clocks => write_text(writer, "refused: clocks\n", 2),
         WordsFault::Twice => write_text(writer, "refused: twice\n", 2),
         WordsFault::NoMemory => report(alloc, &ToolFault::Files(FilesFault::NoMemory), writer),
     }

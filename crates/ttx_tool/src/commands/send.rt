@@ -5,7 +5,7 @@ ghost use Rattle.ttx_cycle.specs.Counters.{inner_of, faults_of};
 ghost use Rattle.ttx_files.specs.Answers.{IsUntouched};
 ghost use Rattle.ttx_files.specs.Devices.{AtCycle, input, output};
 ghost use Rattle.ttx_tool.specs.Devices.{is_tool_write, Fails};
-ghost use Rattle.ttx_tool.specs.Send.{first_moment, Sends};
+ghost use Rattle.ttx_tool.specs.Send.{Sends};
 
 use crate::faults::ToolFault;
 use std::alloc::Global;
@@ -13,29 +13,22 @@ use std::io::{Read, Write};
 use ttx_arguments::Sending;
 use ttx_cycle::{Counted, WriteFault};
 use ttx_files::{FilesFault, read_packets};
-use ttx_send::Moment;
+use ttx_send::Clock;
 
-// When the first field is sent.
-fn first_moment(sending: &Sending) -> Moment
-    ensures { result ≡ first_moment sending.now }
-{
-    let (start, offset) = (&sending.start, &sending.offset);
-    Moment::new(start.mjd(), start.second(), offset.seconds()).unwrap()
-}
-
-/// Reads a packet file, and sends the cycle again and again, with the time: as many fields as `sending` says, from the moment, the
-/// field of the repeated cycle and with the lines that it says.
+/// Reads a packet file, and sends the cycle again and again, with the time that the clock shows: as many fields as `sending` says, from the
+/// field of the repeated cycle on and with the lines that it says.
 ///
 /// Nothing is written before the whole file is read, and sending takes no memory. At `Write` exactly the first `written` bytes
 /// of the fields went out; at each other fault the writer is as it was.
-pub fn run<R: Read, W: Write>(
+pub fn run<C: Clock, R: Read, W: Write>(
     alloc: Global,
     reader: &mut Counted<R>,
+    clock: &C,
     sending: &Sending,
     writer: &mut Counted<W>,
 ) -> Result<(), ToolFault>
     ensures bytes { IfSome (R.remaining (inner_of reader.old))
-        (λ bytes. Sends bytes sending.now (W.contents (inner_of writer.old)) (W.contents (inner_of writer.new)) result) }
+        (λ bytes. Sends bytes (C.shows clock.now) sending.now (W.contents (inner_of writer.old)) (W.contents (inner_of writer.new)) result) }
     ensures faults { Fails (input AtCycle (R.remaining (inner_of reader.old)) (faults_of reader.old) (faults_of reader.new)
         ∷ output (faults_of writer.old) (faults_of writer.new) ∷ []) result }
     ensures untouched { IsUntouched is_tool_write result writer.old writer.new }
@@ -44,8 +37,8 @@ pub fn run<R: Read, W: Write>(
         Ok(cycle) => cycle,
         Err(fault) => return Err(ToolFault::Files(fault)),
     };
-    let (start, lines) = (first_moment(sending), sending.lines.count());
-    match ttx_send::send(&cycle, &start, lines, sending.phase, sending.fields, writer) {
+    let lines = sending.lines.count();
+    match ttx_send::send(&cycle, clock, lines, sending.phase, sending.fields, writer) {
         Ok(()) => Ok(()),
         Err(WriteFault { written }) => Err(ToolFault::Files(FilesFault::Write { written })),
     }
