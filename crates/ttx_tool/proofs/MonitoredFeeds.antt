@@ -1,9 +1,8 @@
 -- What is told of a feed once the three files are read.
-use Rattle.std.proofs.Common.{ℕ, List, [], ◌∷◌, Option, Some, None, Result, Ok, Err, inl, inr}
+use Rattle.std.proofs.Common.{ℕ, List, Option, Some, None, Result, Ok, Err}
 use Rattle.std.specs.Prelude.{IfSome}
 use Rattle.ttx_cycle.specs.Cycles.{slots_of}
 use Rattle.ttx_certificate.specs.Certificates.{fields_of}
-use Rattle.ttx_files.specs.Devices.{AtCycle, AtService, AtCertificate, AtOutput, Place, IsAmong}
 use Rattle.ttx_files.specs.Inputs.{ReadsInputs}
 use Rattle.ttx_files.specs.declared.faults.FilesFault.TheVariants.{Cycle, Service, Certificate, Read, TooLong, Write, NoMemory}
 use Rattle.ttx_files.specs.declared.readers.Inputs.{Inputs}
@@ -47,12 +46,3 @@ module _ (inputs : Inputs) (named : Option ℕ) where
   monitored_of result (Some a) (Some b) None d read is own = tt
   monitored_of result (Some a) None c d read is own = tt
   monitored_of result None b c d read is own = tt
-
--- a fault of one of three inputs is one of them and of the output
-pub still_among : (place : Option Place) → IsAmong (AtCycle ∷ AtService ∷ AtCertificate ∷ []) place →
-    IsAmong (AtCycle ∷ AtService ∷ AtCertificate ∷ AtOutput ∷ []) place
-still_among None h = tt
-still_among (Some place) (inl e) = inl e
-still_among (Some place) (inr (inl e)) = inr (inl e)
-still_among (Some place) (inr (inr (inl e))) = inr (inr (inl e))
-still_among (Some place) (inr (inr (inr h))) = absurd h

@@ -8,10 +8,10 @@
 use Rattle.std.specs.Prelude.{Bool, false, List, map, ⊤, Option, Some, None, Result, Ok, Err}
 use Rattle.ttx_files.specs.Answers.{is_write}
 use Rattle.ttx_files.specs.Devices as files
-use Rattle.ttx_files.specs.Devices.{Place, AtCounter, Device, AllRight, IsAmong, IsFirstFailure}
+use Rattle.ttx_files.specs.Devices.{Place, AtCounter, AtFeed, Device, AllRight, IsAmong, IsFirstFailure}
 use Rattle.ttx_tool.specs.declared.faults.CounterFileFault.TheVariants as counter
 use Rattle.ttx_tool.specs.declared.faults.ToolFault.{ToolFault}
-use Rattle.ttx_tool.specs.declared.faults.ToolFault.TheVariants.{Files, Counter}
+use Rattle.ttx_tool.specs.declared.faults.ToolFault.TheVariants.{Files, Counter, Feed}
 
 abbrev pub is_tool_write : ToolFault → Bool
 is_tool_write (Files fault) = is_write fault
@@ -20,11 +20,13 @@ is_tool_write _ = false
 abbrev pub failed_in : ToolFault → Option Place
 failed_in (Files fault) = files.failed_at {T = ⊤} (Err fault)
 failed_in (Counter counter.Read) = Some AtCounter
+failed_in Feed = Some AtFeed
 failed_in _ = None
 
 abbrev pub place_of : ToolFault → Option Place
 place_of (Files fault) = files.place_of fault
 place_of (Counter fault) = Some AtCounter
+place_of Feed = Some AtFeed
 place_of _ = None
 
 abbrev pub failed_at : {T : Type 0} → Result T ToolFault → Option Place

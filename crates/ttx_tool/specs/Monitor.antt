@@ -5,12 +5,10 @@
 --   IsFaultOfFeed           a fault is that of a read of the feed, or want of memory
 --   IsMonitored             the same of the four files
 --   IsNotMonitored, MonitorsText    why there is no verdict; what is answered for the four files
---   CountsFeed              a fault of the feed is answered if a read of it failed, and only then
 --   Monitors                what was written at each answer
 use Rattle.std.specs.Prelude.{◌≡◌, ℕ, ◌<◌, List, length, take, string_bytes, ⊤, Option, Result, Ok, Err}
 use Rattle.std.specs.Io.KnownBytes.{Appends, Keeps}
 use Rattle.ttx_certificate.specs.Entries.{CertificateFields, certificate_at}
-use Rattle.ttx_cycle.specs.Counts.{HasRisen}
 use Rattle.ttx_cycle.specs.Files.{IsPacketFile}
 use Rattle.ttx_files.specs.Inputs.{IsRefused}
 use Rattle.ttx_files.specs.Texts.{IsServiceText, IsCertificateText}
@@ -65,12 +63,6 @@ IsNotMonitored a b c _ = ⊥
 abbrev pub MonitorsText : List ℕ → List ℕ → List ℕ → Option ℕ → List ℕ → Result (Told ℕ) ToolFault → Type 0
 MonitorsText a b c named feed (Ok told) = IsMonitored a b c named feed (string_bytes told.line) told.verdict
 MonitorsText a b c named feed (Err fault) = IsNotMonitored a b c fault
-
--- by how many reads of the feed had failed before and after
-abbrev pub CountsFeed : {T : Type 0} → Result T ToolFault → ℕ → ℕ → Type 0
-CountsFeed (Ok _) old new = new ≡ old
-CountsFeed (Err Feed) old new = HasRisen old new
-CountsFeed (Err _) old new = new ≡ old
 
 -- Ok: the text went out. A write fault: its first `written` bytes. Else nothing, and why there is no verdict.
 abbrev pub Monitors : List ℕ → List ℕ → List ℕ → Option ℕ → List ℕ → Option (List ℕ) → Option (List ℕ) → Result ℕ ToolFault → Type 0

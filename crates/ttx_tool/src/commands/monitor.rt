@@ -5,17 +5,17 @@ ghost use Rattle.ttx_certificate.specs.Certificates.{fields_of};
 ghost use Rattle.ttx_cycle.specs.Counters.{inner_of, faults_of};
 ghost use Rattle.ttx_cycle.specs.Cycles.{slots_of};
 ghost use Rattle.ttx_files.specs.Answers.{IsUntouched};
-ghost use Rattle.ttx_files.specs.Devices.{AtCycle, AtService, AtCertificate, input, output};
+ghost use Rattle.ttx_files.specs.Devices.{AtCycle, AtService, AtCertificate, AtFeed, input, output};
 ghost use Rattle.ttx_tool.specs.Devices.{is_tool_write, Fails, Reads};
-ghost use Rattle.ttx_tool.specs.Monitor.{feed_status, IsTelling, IsFaultOfFeed, TellsFeed, MonitorsText, CountsFeed, Monitors};
+ghost use Rattle.ttx_tool.specs.Monitor.{feed_status, IsTelling, IsFaultOfFeed, TellsFeed, MonitorsText, Monitors};
 
 use super::reports::write_text;
 use crate::faults::ToolFault;
 use std::alloc::Global;
 use std::io::{Read, Write};
 use ttx_cycle::Counted;
-use ttx_files::{FilesFault, Inputs, Told, read_inputs};
-use ttx_monitor::{FeedFault, FeedVerdict, monitor_feed};
+use ttx_files::{FeedFault, FilesFault, Inputs, Told, read_inputs};
+use ttx_monitor::{FeedVerdict, monitor_feed};
 
 fn feed_status(verdict: FeedVerdict) -> u8
     ensures { result ≡ feed_status verdict }
@@ -36,7 +36,7 @@ fn tell<R: Read>(
     ensures bytes { IfSome (R.remaining (inner_of feed.old)) (λ d. TellsFeed
         (IsTelling (slots_of inputs.now.cycle) inputs.now.service (fields_of inputs.now.certificate) named d) result) }
     ensures own { IsFaultOfFeed result }
-    ensures feed { CountsFeed result (faults_of feed.old) (faults_of feed.new) }
+    ensures faults { Fails (input AtFeed (R.remaining (inner_of feed.old)) (faults_of feed.old) (faults_of feed.new) ∷ []) result }
 {
     match monitor_feed(alloc, inputs, named, feed) {
         Ok(told) => Ok(Told {
@@ -63,8 +63,8 @@ fn monitor_files<A: Read, B: Read, C: Read, R: Read>(
         IfSome (R.remaining (inner_of feed.old)) (λ d. MonitorsText a b c named d result)))) }
     ensures faults { Reads (input AtCycle (A.remaining (inner_of cycle.old)) (faults_of cycle.old) (faults_of cycle.new)
         ∷ input AtService (B.remaining (inner_of service.old)) (faults_of service.old) (faults_of service.new)
-        ∷ input AtCertificate (C.remaining (inner_of certificate.old)) (faults_of certificate.old) (faults_of certificate.new) ∷ []) result }
-    ensures feed { CountsFeed result (faults_of feed.old) (faults_of feed.new) }
+        ∷ input AtCertificate (C.remaining (inner_of certificate.old)) (faults_of certificate.old) (faults_of certificate.new)
+        ∷ input AtFeed (R.remaining (inner_of feed.old)) (faults_of feed.old) (faults_of feed.new) ∷ []) result }
 {
     let inputs = match read_inputs(alloc, cycle, service, certificate) {
         Ok(inputs) => inputs,
@@ -96,8 +96,8 @@ pub fn run<A: Read, B: Read, C: Read, R: Read, W: Write>(
     ensures faults { Fails (input AtCycle (A.remaining (inner_of cycle.old)) (faults_of cycle.old) (faults_of cycle.new)
         ∷ input AtService (B.remaining (inner_of service.old)) (faults_of service.old) (faults_of service.new)
         ∷ input AtCertificate (C.remaining (inner_of certificate.old)) (faults_of certificate.old) (faults_of certificate.new)
+        ∷ input AtFeed (R.remaining (inner_of feed.old)) (faults_of feed.old) (faults_of feed.new)
         ∷ output (faults_of writer.old) (faults_of writer.new) ∷ []) result }
-    ensures feed { CountsFeed result (faults_of feed.old) (faults_of feed.new) }
     ensures untouched { IsUntouched is_tool_write result writer.old writer.new }
 {
     let told = match monitor_files(alloc, cycle, service, certificate, named, feed) {
