@@ -12,3 +12,4 @@ mod HeardMore
 mod MisfitCounts
 mod WaitingSlots
 mod SteppedFeeds
+mod FollowedFeeds

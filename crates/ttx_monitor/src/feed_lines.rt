@@ -75,8 +75,13 @@ fn push_repeat(text: &mut String, pages: &[Page], byte: TextByte) -> Result<(), 
     write!(text, " byte {at}")
 }
 
-// Appends how a slot breaks the rule.
-fn push_way(text: &mut String, pages: &[Page], slot: u64, breach: Breach) -> Result<(), AllocError>
+/// Appends how a slot breaks the rule.
+pub fn push_way(
+    text: &mut String,
+    pages: &[Page],
+    slot: u64,
+    breach: Breach,
+) -> Result<(), AllocError>
     ensures { OnOk result (string_bytes text.new ≡ string_bytes text.old ++ way_text (map page_of pages.now) slot breach) }
 {
     match breach {
@@ -108,8 +113,8 @@ fn push_shift(text: &mut String, count: usize, by: usize) -> Result<(), AllocErr
     write!(text, "{by}")
 }
 
-// Appends where a feed has slipped, and by how many slots.
-fn push_shifted(text: &mut String, count: usize, slot: u64, by: usize) -> Result<(), AllocError>
+/// Appends where a feed has slipped, and by how many slots.
+pub fn push_shifted(text: &mut String, count: usize, slot: u64, by: usize) -> Result<(), AllocError>
     ensures { OnOk result (string_bytes text.new ≡ string_bytes text.old ++ shifted_text count slot by) }
 {
     push_slipped(text, slot)?;

@@ -1,0 +1,65 @@
+-- The lines that are written while a feed is heard, and after it (profile).
+--
+--   Telling                 how they are told: each breach or not, the pages, the slots of the cycle, and after how many slots the state
+--   shift_line, breach_line a slip; a breach
+--   is_due, state_line      whether the state is told after so many slots; its line
+--   event_text, told_text   what is written for one slot; for several
+--   broken_text, total_text the line of a feed that breaks the rule; the last line, with what happens in a minute
+--   a_minute                a count of a feed of so many slots, for 3,000 fields
+use Rattle.std.specs.Prelude.{◌≡◌, ℕ, ◌+◌, ◌*◌, ◌/◌, ◌%◌, ◌-◌, ◌^◌, min, max, Bool, true, false, ◌==◌, if◌then◌else◌, List, [], ◌∷◌, ◌++◌, codes, Option, Some, None}
+use Rattle.std.specs.Fmt.{decimal}
+use Rattle.ttx_page.specs.Pages.{Page}
+use Rattle.ttx_monitor.specs.FeedLines.{way_text, shifted_text}
+use Rattle.ttx_monitor.specs.Tallies.{added}
+use Rattle.ttx_monitor.specs.declared.breach.Breach.{Breach}
+use Rattle.ttx_monitor.specs.declared.event.Event.{Event}
+use Rattle.ttx_monitor.specs.declared.tally.Tally.{Tally}
+
+pub record Telling : Type 0 where
+  pub all : Bool
+  pub pages : List Page
+  pub count : ℕ
+  pub span : Option ℕ
+
+abbrev pub shift_line : ℕ → ℕ → Option ℕ → List ℕ
+shift_line count slot None = []
+shift_line count slot (Some by) = shifted_text count slot by ++ 10 ∷ []
+
+abbrev pub breach_line : List Page → ℕ → Option Breach → List ℕ
+breach_line pages slot None = []
+breach_line pages slot (Some breach) = way_text pages slot breach ++ 10 ∷ []
+
+abbrev pub is_due : Option ℕ → ℕ → Bool
+is_due None slots = false
+is_due (Some span) slots = slots % max span 1 == 0
+
+abbrev pub state_text : Tally → List ℕ
+state_text t =
+    codes "slots " ++ decimal t.slots ++ codes " wrong " ++ decimal t.wrong ++ codes " streak " ++ decimal t.streak ++ codes " lost " ++ decimal t.lost
+    ++ 10 ∷ []
+
+abbrev pub bad_text : Telling → Tally → Event → List ℕ
+bad_text g t e = if g.all then shift_line g.count t.slots e.shift ++ breach_line g.pages t.slots e.breach else []
+
+abbrev pub state_line : Telling → Tally → List ℕ
+state_line g t = if is_due g.span t.slots then state_text t else []
+
+abbrev pub event_text : Telling → Tally → Event → List ℕ
+event_text g t e = bad_text g t e ++ state_line g (added t e)
+
+abbrev pub told_text : Telling → Tally → List Event → List ℕ
+told_text g t [] = []
+told_text g t (e ∷ events) = event_text g t e ++ told_text g (added t e) events
+
+abbrev pub broken_text : ℕ → Tally → List ℕ
+broken_text start t =
+    codes "no start " ++ decimal start ++ codes " slots " ++ decimal t.slots ++ codes " wrong " ++ decimal t.wrong ++ codes " streak "
+    ++ decimal t.streak ++ codes " breaches " ++ decimal t.breaches ++ 10 ∷ []
+
+abbrev pub a_minute : ℕ → ℕ → ℕ → ℕ
+a_minute count slots lines = if slots == 0 then 0 else min (count * (3000 * lines) / slots) (2 ^ 64 - 1)
+
+abbrev pub total_text : ℕ → Tally → List ℕ
+total_text lines t =
+    codes "total lost " ++ decimal t.lost ++ codes " bits " ++ decimal t.bits ++ codes " minute lost " ++ decimal (a_minute t.lost t.slots lines)
+    ++ codes " bits " ++ decimal (a_minute t.bits t.slots lines) ++ 10 ∷ []
