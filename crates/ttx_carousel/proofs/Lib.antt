@@ -1,0 +1,2 @@
+mod JudgedWaits
+mod StaysOfNumbers

@@ -1,0 +1,83 @@
+-- Numbers that stay as long as promised, and promises one after another.
+use Rattle.std.proofs.Common.{◌≡◌, ℕ, zero, suc, ◌+◌, ◌*◌, ◌/◌, ◌<◌, ◌≤◌, List, [], ◌∷◌, length, map, get_or, Some}
+use Rattle.std.proofs.Common.{sym, ap, ◌∙◌, subst, arith, inl, inr}
+use Rattle.std.specs.Prelude.{slice_get, option_map}
+use Rattle.std.proofs.lemmas.Bool.{cases_eq}
+use Rattle.std.proofs.lemmas.List.{length-map}
+use Rattle.std.proofs.lemmas.Option.{slice_get-map, slice_get-get_or, slice_get_within}
+use Rattle.ttx_header.specs.Ids.{Id}
+use Rattle.ttx_page.specs.Pages.{Page}
+use Rattle.ttx_page.specs.Streams.{repeated}
+use Rattle.ttx_page.specs.Views.{page_of}
+use Rattle.ttx_page.specs.declared.page.Page.{Page as PageValue}
+use Rattle.ttx_page.specs.declared.selection.Selection.TheVariants.{AnySub}
+use Rattle.ttx_source.specs.PromiseViews.{promise_view}
+use Rattle.ttx_source.specs.Promises.{PromiseFields}
+use Rattle.ttx_source.specs.Services.{Authored, ServiceFields, pages_of}
+use Rattle.ttx_source.specs.declared.promises.Promise.{Promise}
+use Rattle.ttx_subpages.specs.NumberReports.{IsStayOrNone}
+use Rattle.ttx_carousel.specs.Carousels.{IsStayKeptFor}
+use Rattle.ttx_carousel.specs.Judging.{IsShort}
+use Rattle.ttx_carousel.specs.declared.faults.ShortStay.{ShortStay}
+
+get_there : {A : Type 0} (xs : List A) (i : ℕ) (x d : A) → i < length xs → x ≡ get_or xs i d → slice_get xs i ≡ Some x
+get_there [] i x d lt e = absurd (omega arith)
+get_there (y ∷ xs) zero x d lt e = ap Some (sym e)
+get_there (y ∷ xs) (suc i) x d lt e = get_there xs i x d (omega arith) e
+
+-- the page at an index, as a function shows it
+pub page_there : (values : List PageValue) (pages : List Authored) (i : ℕ) (value : PageValue) → i < length values →
+    value ≡ get_or values i value → map page_of values ≡ map (λ (p : Authored). p.page) pages →
+    slice_get (map (λ (p : Authored). p.page) pages) i ≡ Some (page_of value)
+page_there values pages i value lt is same =
+    ap (λ xs. slice_get xs i) (sym same) ∙ slice_get-map page_of values i ∙ ap (option_map page_of) (get_there values i value value lt is)
+
+pub is_short : (cycle : List (List ℕ)) (service : ServiceFields) (stay : PromiseFields) (short : ShortStay) (p : Page) (number : Id)
+    (slots lines : ℕ) → slice_get (pages_of service) stay.page ≡ Some p → number ≡ p.id →
+    IsStayOrNone (repeated cycle) (AnySub number.mag number.page) slots → lines ≡ service.lines → short.number ≡ number →
+    short.fields ≡ slots / lines → short.promise ≡ stay.fields → slots < stay.fields * lines → IsShort cycle service stay short
+is_short cycle service stay short p number slots lines listed id stays own named fields promise less = record {
+  page = p;
+  listed = listed;
+  number = named ∙ id;
+  slots = slots;
+  stay_is = subst (λ (x : Id). IsStayOrNone (repeated cycle) (AnySub x.mag x.page) slots) id stays;
+  fields = fields ∙ ap (λ n. slots / n) own;
+  promise = promise;
+  missing = subst (λ n. slots < stay.fields * n) own less;
+}
+
+pub is_long : (cycle : List (List ℕ)) (service : ServiceFields) (stay : PromiseFields) (p : Page) (number : Id) (slots lines : ℕ) →
+    slice_get (pages_of service) stay.page ≡ Some p → number ≡ p.id →
+    IsStayOrNone (repeated cycle) (AnySub number.mag number.page) slots → lines ≡ service.lines → stay.fields * lines ≤ slots →
+    IsStayKeptFor cycle service stay
+is_long cycle service stay p number slots lines listed id stays own enough q e =
+    let found : Some p ≡ Some q = sym listed ∙ e in
+    let same : p ≡ q = cc in
+    record {
+      slots = slots;
+      stay = subst (λ (x : Id). IsStayOrNone (repeated cycle) (AnySub x.mag x.page) slots) (id ∙ ap (λ (x : Page). x.id) same) stays;
+      long = subst (λ n. stay.fields * n ≤ slots) own enough;
+    }
+
+-- one more promise
+pub more_promises : (P : PromiseFields → Type 0) (list : List Promise) (n : ℕ) (d : Promise) → n < length list →
+    ((other : ℕ) (kept : PromiseFields) → other < n → slice_get (map promise_view list) other ≡ Some kept → P kept) →
+    P (promise_view (get_or list n d)) →
+    (other : ℕ) (kept : PromiseFields) → other < n + 1 → slice_get (map promise_view list) other ≡ Some kept → P kept
+more_promises P list n d lt before here other kept below e = elim (cases_eq other n) [
+  | inl same ↦
+      let found : Some (promise_view (get_or list n d)) ≡ Some kept =
+      sym (slice_get-map promise_view list n ∙ ap (option_map promise_view) (slice_get-get_or list n d lt))
+      ∙ ap (slice_get (map promise_view list)) (sym same) ∙ e in
+      let is : promise_view (get_or list n d) ≡ kept = cc in
+      subst P is here
+  | inr apart ↦ before other kept (omega (arith, below, apart)) e
+]
+
+pub all_promises : (P : PromiseFields → Type 0) (list : List Promise) (n : ℕ) → length list ≤ n →
+    ((other : ℕ) (kept : PromiseFields) → other < n → slice_get (map promise_view list) other ≡ Some kept → P kept) →
+    (number : ℕ) (promise : PromiseFields) → slice_get (map promise_view list) number ≡ Some promise → P promise
+all_promises P list n le before number promise e =
+    let lt = slice_get_within (map promise_view list) number promise e in
+    before number promise (omega (arith, lt, le, length-map list promise_view)) e

@@ -1,0 +1,5 @@
+pub mod Carousels
+pub mod Judging
+pub mod Orders
+pub mod Waiting
+pub mod Planning
