@@ -2,6 +2,7 @@
 #![tactic(auto)]
 
 mod certifying;
+mod first_edition;
 mod house;
 mod late_words;
 mod planning;
@@ -14,6 +15,7 @@ mod slow_pages;
 mod terms;
 mod turns;
 
+pub use first_edition::first;
 pub use house::House;
 pub use printing::printed;
 pub use service_file::ServiceFile;
