@@ -79,7 +79,7 @@ fn aired(
         packets: Counted::new(FaultyWriter::new(packets, 1_000, None)),
     };
     let airtime = Airtime {
-        start,
+        clock: start,
         fields: 150,
         receivers,
     };
@@ -90,20 +90,22 @@ fn aired(
 }
 
 // An edition holds for 72 slots, which are three periods of 28; the first one has no begin.
-static AT_ONCE: &[u8] = b"field 0 on air a: 1 page, deadline 36 fields (0.72 s), 28 slots\n\
-      field 14 changed b: 0 pages new, 0 gone, deadline 36\n\
-      field 56 kept c: line 3 column 1: not a page\n\
-      field 70 kept b: no 3 numbers\n\
-      field 98 changed b: 0 pages new, 0 gone, deadline 36\n\
-      field 150 end\n";
+static AT_ONCE: &[u8] =
+    b"field 0 2025-11-21T01:00:00+01:00 on air a: 1 page, deadline 36 fields (0.72 s), 28 slots\n\
+      field 14 2025-11-21T01:00:00+01:00 changed b: 0 pages new, 0 gone, deadline 36\n\
+      field 56 2025-11-21T01:00:01+01:00 kept c: line 3 column 1: not a page\n\
+      field 70 2025-11-21T01:00:01+01:00 kept b: no 3 numbers\n\
+      field 98 2025-11-21T01:00:01+01:00 changed b: 0 pages new, 0 gone, deadline 36\n\
+      field 150 2025-11-21T01:00:03+01:00 end\n";
 
 // The turned cycle ends with the header of page 100, which the other one begins with.
-static LATE: &[u8] = b"field 0 on air a: 1 page, deadline 36 fields (0.72 s), 28 slots\n\
-      field 14 changed b: 0 pages new, 0 gone, deadline 36\n\
-      field 56 kept c: line 3 column 1: not a page\n\
-      field 70 kept b: no 3 numbers\n\
-      field 98 kept b: no 9 unfollowed 100/0000\n\
-      field 150 end\n";
+static LATE: &[u8] =
+    b"field 0 2025-11-21T01:00:00+01:00 on air a: 1 page, deadline 36 fields (0.72 s), 28 slots\n\
+      field 14 2025-11-21T01:00:00+01:00 changed b: 0 pages new, 0 gone, deadline 36\n\
+      field 56 2025-11-21T01:00:01+01:00 kept c: line 3 column 1: not a page\n\
+      field 70 2025-11-21T01:00:01+01:00 kept b: no 3 numbers\n\
+      field 98 2025-11-21T01:00:01+01:00 kept b: no 9 unfollowed 100/0000\n\
+      field 150 2025-11-21T01:00:03+01:00 end\n";
 
 // The FNV-1a sum.
 fn sum(bytes: &[u8]) -> u32 {

@@ -66,3 +66,5 @@ mod times;
 mod walks;
 #[cfg(test)]
 mod watched;
+#[cfg(test)]
+mod zones;

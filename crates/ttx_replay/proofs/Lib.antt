@@ -1,0 +1,2 @@
+mod ReplayedEndings
+mod ReplayedSlots
