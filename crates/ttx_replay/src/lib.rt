@@ -1,4 +1,4 @@
-//! Replays of airings: a newsroom that answers what the log of an airing records, and laws that the air is the same again.
+//! Laws of replays: where a newsroom answers what the log of an airing records, the air is the same again.
 #![tactic(auto)]
 
 pub mod laws;
