@@ -16,25 +16,25 @@ then_all before first (Ok others) = ap Ok (sym (append_assoc before first others
 then_all before first (Err e) = refl
 
 -- the promise of one page more, or the fault that ends them
-pub promises_more : (done : List PromiseFields) (vs : List Value) (i : ℕ) (d : Value) (first : List PromiseFields) → i < length vs →
-    promise_in i (view (get_or vs i d)) ≡ Ok first →
-    then done (promises_in i (items_view (drop i vs))) ≡ then (done ++ first) (promises_in (i + 1) (items_view (drop (i + 1) vs)))
+pub promises_more : (key : List ℕ) (done : List PromiseFields) (vs : List Value) (i : ℕ) (d : Value) (first : List PromiseFields) → i < length vs →
+    promise_in key i (view (get_or vs i d)) ≡ Ok first →
+    then done (promises_in key i (items_view (drop i vs))) ≡ then (done ++ first) (promises_in key (i + 1) (items_view (drop (i + 1) vs)))
 unfolding promises_in
-promises_more done vs i d first here h =
+promises_more key done vs i d first here h =
     let next : suc i ≡ i + 1 = omega arith in
     rw (drop_more vs i d here, h)
-    (then_all done first (promises_in (suc i) (items_view (drop (i + 1) vs)))
-    ∙ ap (λ k. then (done ++ first) (promises_in k (items_view (drop (i + 1) vs)))) next)
+    (then_all done first (promises_in key (suc i) (items_view (drop (i + 1) vs)))
+    ∙ ap (λ k. then (done ++ first) (promises_in key k (items_view (drop (i + 1) vs)))) next)
 
-pub promises_fault : (done : List PromiseFields) (vs : List Value) (i : ℕ) (d : Value) (e : Fault × ℕ) → i < length vs →
-    promise_in i (view (get_or vs i d)) ≡ Err e → then done (promises_in i (items_view (drop i vs))) ≡ Err e
+pub promises_fault : (key : List ℕ) (done : List PromiseFields) (vs : List Value) (i : ℕ) (d : Value) (e : Fault × ℕ) → i < length vs →
+    promise_in key i (view (get_or vs i d)) ≡ Err e → then done (promises_in key i (items_view (drop i vs))) ≡ Err e
 unfolding promises_in
-promises_fault done vs i d e here h = rw (drop_more vs i d here, h)
+promises_fault key done vs i d e here h = rw (drop_more vs i d here, h)
 
-pub promises_end : (done : List PromiseFields) (vs : List Value) (i : ℕ) → length vs ≤ i →
-    then done (promises_in i (items_view (drop i vs))) ≡ Ok done
+pub promises_end : (key : List ℕ) (done : List PromiseFields) (vs : List Value) (i : ℕ) → length vs ≤ i →
+    then done (promises_in key i (items_view (drop i vs))) ≡ Ok done
 unfolding promises_in
-promises_end done vs i past = rw (drop_all i vs past) (ap Ok (append-nil done))
+promises_end key done vs i past = rw (drop_all i vs past) (ap Ok (append-nil done))
 
 -- nothing more, as the definitions see it
 pub no_promise : (promises : List Promise) → map promise_view promises ≡ map promise_view promises ++ promise_list None

@@ -48,6 +48,7 @@ key_name key.Links = codes "links"
 key_name key.Row24 = codes "row24"
 key_name key.Crc = codes "crc"
 key_name key.Within = codes "within"
+key_name key.Stays = codes "stays"
 
 abbrev pub key_fault_of : KeyFault → Fault
 key_fault_of (Missing k) = missing (key_name k)

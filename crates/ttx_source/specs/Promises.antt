@@ -1,9 +1,11 @@
--- The promises of a service definition: the key `within` of a page, the seconds within which a viewer is to see it (profile).
+-- The promises of a service definition: the key `within` of a page, the seconds within which a viewer is to see it, and its key `stays`, the
+-- seconds for which each page of its number is to stay (profile).
 --
 --   PromiseFields           a page that has a promise, as contracts see it
 --   microseconds, fields_of_float, fields_of_integer, fields_of     the seconds of a value as whole fields of 0.02 s
---   promise_of              the promise of a page, which may have none
---   promises_in, promises_of, read_promises     those of an array of pages, of a table and of a text, or the first fault
+--   promise_of              the promise of a page at a key, which may have none
+--   promises_in, promises_of, read_key     those of an array of pages, of a table and of a text, or the first fault
+--   read_promises, read_stays       those at `within` and at `stays`
 use Rattle.std.specs.Prelude.{ℕ, ℤ, suc, ◌*◌, ◌/◌, ◌&&◌, ◌++◌, List, [], ◌∷◌, codes, Bool, Option, Some, None, Result, Ok, Err}
 use Rattle.std.specs.Prelude.{if◌then◌else◌, nat_le, is_some, Float}
 use Rattle.std.specs.Float.Ieee.{add, mul, of_bits, binary64, to_unsigned}
@@ -28,52 +30,58 @@ unfoldable pub microseconds : Float → ℕ
 microseconds x = to_unsigned 64 (add binary64 (mul binary64 x (of_bits binary64 0x412e_8480_0000_0000)) (of_bits binary64 0x3fe0_0000_0000_0000))
 
 -- 0.02 to 20000 seconds; a field has 20000 microseconds, and what is left of one does not count
-abbrev pub whole_fields : ℕ → Result ℕ Fault
-whole_fields n = if nat_le 20000 n && nat_le n 20000000000 then Ok (n / 20000) else Err (out_of_range (codes "within"))
+abbrev pub whole_fields : List ℕ → ℕ → Result ℕ Fault
+whole_fields key n = if nat_le 20000 n && nat_le n 20000000000 then Ok (n / 20000) else Err (out_of_range key)
 
-abbrev pub fields_of_float : Float → Result ℕ Fault
-fields_of_float x = whole_fields (microseconds x)
+abbrev pub fields_of_float : List ℕ → Float → Result ℕ Fault
+fields_of_float key x = whole_fields key (microseconds x)
 
 -- 1 to 20000 seconds
-abbrev pub fields_of_integer : ℤ → Result ℕ Fault
-fields_of_integer z = integer_within (codes "within") 1 20000 z >>= (λ n. Ok (50 * n))
+abbrev pub fields_of_integer : List ℕ → ℤ → Result ℕ Fault
+fields_of_integer key z = integer_within key 1 20000 z >>= (λ n. Ok (50 * n))
 
--- the fields of a value, which is an integer or a float
-abbrev pub fields_of : Data → Result ℕ Fault
-fields_of (integer z) = fields_of_integer z
-fields_of (float x) = fields_of_float x
-fields_of (string s) = Err (wrong_kind (codes "within"))
-fields_of (boolean b) = Err (wrong_kind (codes "within"))
-fields_of (datetime d) = Err (wrong_kind (codes "within"))
-fields_of (array a) = Err (wrong_kind (codes "within"))
-fields_of (table t) = Err (wrong_kind (codes "within"))
+-- the fields of the value of a key, which is an integer or a float
+abbrev pub fields_of : List ℕ → Data → Result ℕ Fault
+fields_of key (integer z) = fields_of_integer key z
+fields_of key (float x) = fields_of_float key x
+fields_of key (string s) = Err (wrong_kind key)
+fields_of key (boolean b) = Err (wrong_kind key)
+fields_of key (datetime d) = Err (wrong_kind key)
+fields_of key (array a) = Err (wrong_kind key)
+fields_of key (table t) = Err (wrong_kind key)
 
 -- the promise of the page at an index
-abbrev pub promise_by : ℕ → Members → Option Data → Result (List PromiseFields) Fault
-promise_by page keys None = Ok []
-promise_by page keys (Some value) = fields_of value >>= (λ n. Ok (promise_at page n (is_some (get_member (codes "often") keys)) ∷ []))
+abbrev pub promise_by : List ℕ → ℕ → Members → Option Data → Result (List PromiseFields) Fault
+promise_by key page keys None = Ok []
+promise_by key page keys (Some value) = fields_of key value >>= (λ n. Ok (promise_at page n (is_some (get_member (codes "often") keys)) ∷ []))
 
-abbrev pub promise_of : ℕ → Members → Result (List PromiseFields) Fault
-promise_of page keys = promise_by page keys (get_member (codes "within") keys)
+abbrev pub promise_of : List ℕ → ℕ → Members → Result (List PromiseFields) Fault
+promise_of key page keys = promise_by key page keys (get_member key keys)
 
 -- the same of an item of the array of pages; pages are counted from 1 in faults
-abbrev pub promise_in : ℕ → Data → Result (List PromiseFields) (Fault × ℕ)
-promise_in page value = in_page 0 (of_kind (codes "page") as_table value) >>= (λ keys. in_page (suc page) (promise_of page keys))
+abbrev pub promise_in : List ℕ → ℕ → Data → Result (List PromiseFields) (Fault × ℕ)
+promise_in key page value = in_page 0 (of_kind (codes "page") as_table value) >>= (λ keys. in_page (suc page) (promise_of key page keys))
 
 -- the promises of pages, the first of which has this index
-unfoldable pub promises_in : ℕ → Items → Result (List PromiseFields) (Fault × ℕ)
-promises_in page no_items = Ok []
-promises_in page (item value values) =
-    promise_in page value >>= (λ first. promises_in (suc page) values >>= (λ others. Ok (first ++ others)))
+unfoldable pub promises_in : List ℕ → ℕ → Items → Result (List PromiseFields) (Fault × ℕ)
+promises_in key page no_items = Ok []
+promises_in key page (item value values) =
+    promise_in key page value >>= (λ first. promises_in key (suc page) values >>= (λ others. Ok (first ++ others)))
 
 -- the promises of the service that a table is
-abbrev pub promises_of : Members → Result (List PromiseFields) (Fault × ℕ)
-promises_of keys = in_page 0 (page_tables keys) >>= promises_in 0
+abbrev pub promises_of : List ℕ → Members → Result (List PromiseFields) (Fault × ℕ)
+promises_of key keys = in_page 0 (page_tables keys) >>= promises_in key 0
 
-abbrev pub promises_or : Option Members → Result (List PromiseFields) (Fault × ℕ)
-promises_or None = Err (not_toml, 0)
-promises_or (Some keys) = promises_of keys
+abbrev pub promises_or : List ℕ → Option Members → Result (List PromiseFields) (Fault × ℕ)
+promises_or key None = Err (not_toml, 0)
+promises_or key (Some keys) = promises_of key keys
 
 -- the promises of the service that a text is
+abbrev pub read_key : List ℕ → List ℕ → Result (List PromiseFields) (Fault × ℕ)
+read_key key bytes = if is_utf8 bytes then promises_or key (parse_document bytes) else Err (not_toml, 0)
+
 abbrev pub read_promises : List ℕ → Result (List PromiseFields) (Fault × ℕ)
-read_promises bytes = if is_utf8 bytes then promises_or (parse_document bytes) else Err (not_toml, 0)
+read_promises bytes = read_key (codes "within") bytes
+
+abbrev pub read_stays : List ℕ → Result (List PromiseFields) (Fault × ℕ)
+read_stays bytes = read_key (codes "stays") bytes

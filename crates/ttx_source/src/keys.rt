@@ -33,10 +33,11 @@ pub enum Key {
     Row24,
     Crc,
     Within,
+    Stays,
 }
 
 // The name of each key, in the order of `Key`, and what the key takes.
-static KEYS: [(&str, &str); 27] = [
+static KEYS: [(&str, &str); 28] = [
     ("lines", "an integer from 1 to 32"),
     ("serial", "true or false"),
     ("info", "a table"),
@@ -76,6 +77,7 @@ static KEYS: [(&str, &str); 27] = [
         "within",
         "seconds from 0.02 to 20000, an integer or a float",
     ),
+    ("stays", "seconds from 0.02 to 20000, an integer or a float"),
 ];
 
 impl Key {

@@ -16,6 +16,6 @@ mod texts;
 mod values;
 
 pub use faults::{SourceError, SourceFault};
-pub use promises::{Promise, read_promises};
+pub use promises::{Promise, read_promises, read_stays};
 pub use reading::read_service;
 pub use services::Service;

@@ -1,9 +1,9 @@
-//! The promises of a service definition: the seconds within which a viewer is to see a page.
+//! The promises of a service definition: the seconds within which a viewer is to see a page, and for which the pages of a number stay.
 
 ghost use Rattle.std.specs.Prelude.{◌≡◌, ◌<◌, ◌≤◌, ◌++◌, length, codes, map, IfOk};
 ghost use Rattle.toml.specs.View.{table_view, items_view, view};
 ghost use Rattle.ttx_source.specs.Faults.{outcome_in_page, IsSourceUnlessMemory};
-ghost use Rattle.ttx_source.specs.KeyFaults.{key_outcome, read_outcome, IsReadUnlessMemory};
+ghost use Rattle.ttx_source.specs.KeyFaults.{key_name, key_outcome, read_outcome, IsReadUnlessMemory};
 ghost use Rattle.ttx_source.specs.Promises as rule;
 ghost use Rattle.ttx_source.specs.PromiseViews.{promise_view, promise_list};
 
@@ -21,7 +21,7 @@ use toml::{Table, Value};
 pub struct Promise {
     /// The index of the page in authored order.
     pub page: usize,
-    /// The fields of 0.02 s within which a viewer is to see it, 1 to 1,000,000.
+    /// The fields of 0.02 s within which a viewer is to see it, or for which each page of its number is to stay, 1 to 1,000,000.
     pub fields: u32,
     /// Whether the page says how often it is sent: it has the key `often`.
     pub fixed: bool,
@@ -36,42 +36,42 @@ fn microseconds(seconds: f64) -> u64
 }
 
 // The whole fields of a number of microseconds.
-fn whole_fields(microseconds: u64) -> Result<u32, KeyFault>
-    ensures { key_outcome (λ n. n) result ≡ rule.whole_fields microseconds }
+fn whole_fields(key: Key, microseconds: u64) -> Result<u32, KeyFault>
+    ensures { key_outcome (λ n. n) result ≡ rule.whole_fields (key_name key) microseconds }
 {
     if microseconds < 20_000 || microseconds > 20_000_000_000 {
-        return Err(KeyFault::Range { key: Key::Within });
+        return Err(KeyFault::Range { key });
     }
     Ok((microseconds / 20_000) as u32)
 }
 
 // The fields of a whole number of seconds.
-fn fields_of_integer(seconds: i64) -> Result<u32, KeyFault>
-    ensures { key_outcome (λ n. n) result ≡ rule.fields_of_integer seconds }
+fn fields_of_integer(key: Key, seconds: i64) -> Result<u32, KeyFault>
+    ensures { key_outcome (λ n. n) result ≡ rule.fields_of_integer (key_name key) seconds }
 {
-    let seconds = within(seconds, Key::Within, 1, 20_000)?;
+    let seconds = within(seconds, key, 1, 20_000)?;
     Ok(50 * seconds)
 }
 
 // The fields of a value.
-fn fields_of(value: &Value) -> Result<u32, KeyFault>
-    ensures { key_outcome (λ n. n) result ≡ rule.fields_of (view value.now) }
+fn fields_of(key: Key, value: &Value) -> Result<u32, KeyFault>
+    ensures { key_outcome (λ n. n) result ≡ rule.fields_of (key_name key) (view value.now) }
 {
     match value {
-        Value::Integer(seconds) => fields_of_integer(*seconds),
-        Value::Float(seconds) => whole_fields(microseconds(*seconds)),
-        _ => Err(KeyFault::Kind { key: Key::Within }),
+        Value::Integer(seconds) => fields_of_integer(key, *seconds),
+        Value::Float(seconds) => whole_fields(key, microseconds(*seconds)),
+        _ => Err(KeyFault::Kind { key }),
     }
 }
 
-// The promise of the page at an index, where it has one.
-fn promise_of(page: usize, table: &Table) -> Result<Option<Promise>, KeyFault>
-    ensures { key_outcome promise_list result ≡ rule.promise_of page (table_view table.now) }
+// The promise of the page at an index, where it has one at the key.
+fn promise_of(key: Key, page: usize, table: &Table) -> Result<Option<Promise>, KeyFault>
+    ensures { key_outcome promise_list result ≡ rule.promise_of (key_name key) page (table_view table.now) }
 {
-    let Some(value) = member(table, Key::Within) else {
+    let Some(value) = member(table, key) else {
         return Ok(None);
     };
-    let fields = fields_of(value)?;
+    let fields = fields_of(key, value)?;
     let fixed = member(table, Key::Often).is_some();
     Ok(Some(Promise {
         page,
@@ -81,15 +81,15 @@ fn promise_of(page: usize, table: &Table) -> Result<Option<Promise>, KeyFault>
 }
 
 // The promise of a value of the array of pages.
-fn promise_in(page: usize, value: &Value) -> Result<Option<Promise>, ReadFault>
+fn promise_in(key: Key, page: usize, value: &Value) -> Result<Option<Promise>, ReadFault>
     requires { page < 2000 }
-    ensures { read_outcome promise_list result ≡ rule.promise_in page (view value.now) }
+    ensures { read_outcome promise_list result ≡ rule.promise_in (key_name key) page (view value.now) }
 {
     let table = match table_of(value, Key::Page) {
         Ok(table) => table,
         Err(fault) => return Err(ReadFault::InPage { page: 0, fault }),
     };
-    match promise_of(page, table) {
+    match promise_of(key, page, table) {
         Ok(promise) => Ok(promise),
         Err(fault) => Err(ReadFault::InPage {
             page: page + 1,
@@ -112,13 +112,14 @@ fn push_promise(promises: &mut Vec<Promise>, promise: Option<Promise>) -> Result
 }
 
 // The promises of the values of the array of pages.
-fn promises_in(alloc: Global, values: &[Value]) -> Result<Vec<Promise>, ReadFault>
+fn promises_in(alloc: Global, key: Key, values: &[Value]) -> Result<Vec<Promise>, ReadFault>
     requires { length values.now ≤ 2000 }
-    ensures { IsReadUnlessMemory result (read_outcome (λ ps. map promise_view ps.items) result ≡ rule.promises_in 0 (items_view values.now)) }
+    ensures { IsReadUnlessMemory result (read_outcome (λ ps. map promise_view ps.items) result
+        ≡ rule.promises_in (key_name key) 0 (items_view values.now)) }
 {
     let mut promises = Vec::new(alloc);
     for (page, value) in values.iter().enumerate() {
-        let promise = match promise_in(page, value) {
+        let promise = match promise_in(key, page, value) {
             Ok(promise) => promise,
             Err(fault) => return Err(fault),
         };
@@ -131,24 +132,25 @@ fn promises_in(alloc: Global, values: &[Value]) -> Result<Vec<Promise>, ReadFaul
 }
 
 // The promises of the service that a table is, or the first fault.
-fn promises_of(alloc: Global, table: &Table) -> Result<Vec<Promise>, ReadFault>
-    ensures { IsReadUnlessMemory result (read_outcome (λ ps. map promise_view ps.items) result ≡ rule.promises_of (table_view table.now)) }
+fn promises_of(alloc: Global, key: Key, table: &Table) -> Result<Vec<Promise>, ReadFault>
+    ensures { IsReadUnlessMemory result (read_outcome (λ ps. map promise_view ps.items) result
+        ≡ rule.promises_of (key_name key) (table_view table.now)) }
 {
     match page_tables(table) {
-        Ok(values) => promises_in(alloc, values),
+        Ok(values) => promises_in(alloc, key, values),
         Err(fault) => Err(ReadFault::InPage { page: 0, fault }),
     }
 }
 
 // The promises of the service that a text is, or the first fault.
-fn read(alloc: Global, bytes: &[u8]) -> Result<Vec<Promise>, ReadFault>
-    ensures { IsReadUnlessMemory result (read_outcome (λ ps. map promise_view ps.items) result ≡ rule.read_promises bytes.now) }
+fn read(alloc: Global, key: Key, bytes: &[u8]) -> Result<Vec<Promise>, ReadFault>
+    ensures { IsReadUnlessMemory result (read_outcome (λ ps. map promise_view ps.items) result ≡ rule.read_key (key_name key) bytes.now) }
 {
     let Ok(text) = std::str::from_utf8(bytes) else {
         return Err(ReadFault::NotToml);
     };
     match toml::table_from_str(alloc, text) {
-        Ok(table) => promises_of(alloc, &table),
+        Ok(table) => promises_of(alloc, key, &table),
         Err(error) if error.is_memory() => Err(ReadFault::NoMemory),
         Err(_) => Err(ReadFault::NotToml),
     }
@@ -161,8 +163,19 @@ fn read(alloc: Global, bytes: &[u8]) -> Result<Vec<Promise>, ReadFault>
 pub fn read_promises(alloc: Global, bytes: &[u8]) -> Result<Vec<Promise>, SourceError>
     ensures { IsSourceUnlessMemory result (outcome_in_page (λ ps. map promise_view ps.items) result ≡ rule.read_promises bytes.now) }
 {
-    match read(alloc, bytes) {
+    match read(alloc, Key::Within, bytes) {
         Ok(promises) => Ok(promises),
+        Err(fault) => Err(fault.source_error()),
+    }
+}
+
+/// The stays of the service that a TOML text is, in authored order: of each page with a key `stays` the seconds for which each page of its
+/// number is to stay, in the form of `within`. In all else as `read_promises`.
+pub fn read_stays(alloc: Global, bytes: &[u8]) -> Result<Vec<Promise>, SourceError>
+    ensures { IsSourceUnlessMemory result (outcome_in_page (λ ps. map promise_view ps.items) result ≡ rule.read_stays bytes.now) }
+{
+    match read(alloc, Key::Stays, bytes) {
+        Ok(stays) => Ok(stays),
         Err(fault) => Err(fault.source_error()),
     }
 }
