@@ -396,8 +396,8 @@ bytes; the sender must leave that line without a packet.
 
 TIME is one of
   now                        when ttx is started, by the clock of the machine
-  MJD/HHMMSS                 in UTC: five digits of the Modified Julian Date, and
-                             six of the time
+  MJD/HHMMSS                 in UTC: five digits of the Modified Julian Date,
+                             and six of the time
   2026-11-25T12:00:00        by the clock in page headers: that of --zone or
                              --offset, or UTC
   2026-11-25T12:00:00Z       in UTC
