@@ -1,6 +1,7 @@
 -- The answers of calls of other crates as those of commands.
 --
---   verdict_status, late_status, numbers_status, required_status, splice_status, sent_status      0 for a yes, 1 for a no
+--   verdict_status, late_status, numbers_status, required_status, splice_status, sent_status, late_splice_status
+--                          0 for a yes, 1 for a no
 --   pages_status            0, whatever is listed
 --   IsAnswered              a command answers what a call does
 use Rattle.std.specs.Prelude.{◌≡◌, ℕ, ⊤, Result, Ok, Err}
@@ -11,6 +12,8 @@ use Rattle.ttx_deadline.specs.declared.requirements.RequiredVerdict.{RequiredVer
 use Rattle.ttx_deadline.specs.declared.requirements.RequiredVerdict.TheVariants as required
 use Rattle.ttx_late.specs.declared.verdict.LateVerdict.{LateVerdict}
 use Rattle.ttx_late.specs.declared.verdict.LateVerdict.TheVariants as late
+use Rattle.ttx_change.specs.declared.verdict.LateSplice.{LateSplice}
+use Rattle.ttx_change.specs.declared.verdict.LateSplice.TheVariants as late_splice
 use Rattle.ttx_subpages.specs.declared.verdict.NumbersVerdict.{NumbersVerdict}
 use Rattle.ttx_subpages.specs.declared.verdict.NumbersVerdict.TheVariants as numbers
 use Rattle.ttx_proof.specs.declared.sent.SentVerdict.{SentVerdict}
@@ -47,6 +50,13 @@ abbrev pub sent_status : SentVerdict → ℕ
 sent_status sent.Yes = 0
 sent_status (sent.No reason) = 1
 sent_status (sent.TooSoon left) = 1
+
+abbrev pub late_splice_status : LateSplice → ℕ
+late_splice_status late_splice.Yes = 0
+late_splice_status (late_splice.No verdict) = 1
+late_splice_status (late_splice.Amid page slot) = 1
+late_splice_status (late_splice.Stored page slot) = 1
+late_splice_status (late_splice.Unfollowed page) = 1
 
 abbrev pub pages_status : ⊤ → ℕ
 pages_status _ = 0

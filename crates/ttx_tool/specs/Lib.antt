@@ -21,6 +21,7 @@ pub mod Reports
 pub mod PlannedFiles
 pub mod PlanLaws
 pub mod Wait
+pub mod WaitNumbers
 pub mod Send
 pub mod Beginnings
 pub mod Version

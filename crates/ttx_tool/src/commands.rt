@@ -25,8 +25,10 @@ mod reports;
 pub mod send;
 pub mod show;
 pub mod splice;
+pub mod splice_late;
 pub mod splice_sent;
 pub mod version;
 pub mod wait;
+pub mod wait_numbers;
 
 pub use reports::{report, report_air, report_extraction, report_words};

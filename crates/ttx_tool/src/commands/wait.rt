@@ -24,10 +24,10 @@ use ttx_witness::NoMemory;
 
 // For receivers of which class, with which repeat count, and in which lines it is told.
 #[derive(Clone, Copy)]
-struct Question {
-    repeat: u8,
-    class: Class,
-    detail: Detail,
+pub(super) struct Question {
+    pub repeat: u8,
+    pub class: Class,
+    pub detail: Detail,
 }
 
 fn wait_status(deadline: Option<u32>) -> u8
@@ -109,7 +109,7 @@ fn tell_promised(
 }
 
 // What is told of a cycle and a service, which may have promises.
-fn tell_beside(
+pub(super) fn tell_beside(
     alloc: Global,
     cycle: &Cycle,
     promised: &Promised,
