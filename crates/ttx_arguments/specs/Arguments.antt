@@ -54,7 +54,9 @@ id_of argument.At = codes "at"
 id_of argument.PlannedLate = codes "late"
 id_of argument.Spread = codes "spread"
 id_of argument.Numbers = codes "numbers"
+id_of argument.WaitNumbers = codes "numbers"
 id_of argument.Late = codes "late"
+id_of argument.SplicedLate = codes "late"
 id_of argument.Twice = codes "twice"
 id_of argument.Reveal = codes "reveal"
 id_of argument.Items = codes "items"
@@ -83,7 +85,9 @@ takes_of argument.Zone = takes.Text
 takes_of argument.PlannedLate = takes.Nothing
 takes_of argument.Spread = takes.Nothing
 takes_of argument.Late = takes.Nothing
+takes_of argument.SplicedLate = takes.Nothing
 takes_of argument.Numbers = takes.Nothing
+takes_of argument.WaitNumbers = takes.Nothing
 takes_of argument.Twice = takes.Nothing
 takes_of argument.Reveal = takes.Nothing
 takes_of argument.Items = takes.Nothing
@@ -146,8 +150,8 @@ arguments_of command.Show =
     argument.Cycle ∷ argument.Page ∷ argument.Lines ∷ argument.Start ∷ argument.Slots ∷ argument.Kind ∷ argument.Form ∷ argument.Reveal ∷ []
 arguments_of command.Preview = argument.Service ∷ argument.Page ∷ argument.Form ∷ argument.Reveal ∷ []
 arguments_of command.Splice =
-    argument.Old ∷ argument.New ∷ argument.OldService ∷ argument.NewService ∷ argument.OldCertificate ∷ argument.NewCertificate ∷ argument.Sent ∷ []
-arguments_of command.Wait = argument.Cycle ∷ argument.Service ∷ argument.Repeat ∷ argument.Class ∷ argument.Items ∷ []
+    argument.Old ∷ argument.New ∷ argument.OldService ∷ argument.NewService ∷ argument.OldCertificate ∷ argument.NewCertificate ∷ argument.Sent ∷ argument.SplicedLate ∷ []
+arguments_of command.Wait = argument.Cycle ∷ argument.Service ∷ argument.Repeat ∷ argument.Class ∷ argument.Items ∷ argument.WaitNumbers ∷ []
 arguments_of command.Send =
     argument.Cycle ∷ argument.At ∷ argument.Fields ∷ argument.NeededLines ∷ argument.Phase ∷ argument.Offset ∷ argument.Zone ∷ argument.Force ∷ []
 arguments_of command.Monitor = argument.Cycle ∷ argument.Service ∷ argument.Certificate ∷ argument.Feed ∷ argument.FeedStart ∷ []

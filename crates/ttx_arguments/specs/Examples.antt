@@ -6,7 +6,7 @@
 --   PlanWords                two options without a value, alone and together
 --   SecondsTexts, FindWords  seconds as fields, and texts that are none; one deadline, and two
 --   RepeatWords              a number at the end of its range, and one beyond it
---   SpliceWords              a number that need not be there
+--   SpliceWords, WaitWords   a number that need not be there; options without a value
 --   MonitorWords             a slot that need not be there, and two inputs that are standard input
 --   TwiceWords               standard input for two inputs, and for a cycle that is read twice
 use Rattle.std.specs.Prelude.{◌≡◌, ℕ, pos, negsuc, Bool, List, [], ◌∷◌, ◌++◌, Option, Some, None, Ok, Err, codes, true, false}
@@ -14,7 +14,7 @@ use Rattle.clap.specs.Words.{Text, fault_of}
 use Rattle.clap.specs.declared.error.kind.ErrorKind.TheVariants.{DisplayVersion, MissingRequiredArgument, ValueValidation}
 use Rattle.ttx_page.specs.declared.class.Class.TheVariants.{Any}
 use Rattle.ttx_arguments.specs.Grammar.{ttx_app}
-use Rattle.ttx_arguments.specs.Orders.{Asks, OrderView, certify_order, find_order, monitor_order, plan_order, send_order, splice_order, no_time, two_clocks, no_seconds, two_deadlines, within_and_more, numbers_unfit, named_twice}
+use Rattle.ttx_arguments.specs.Orders.{Asks, OrderView, certify_order, find_order, monitor_order, plan_order, send_order, splice_order, wait_order, no_time, two_clocks, no_seconds, two_deadlines, within_and_more, numbers_unfit, named_twice}
 use Rattle.ttx_arguments.specs.Seconds.{fields_of}
 use Rattle.ttx_arguments.specs.Timings.{StartView, start_now, start_utc, start_text, ClockView, clock_ahead, clock_in}
 use Rattle.ttx_arguments.specs.declared.grammar.Names.{Names}
@@ -106,15 +106,28 @@ RepeatWords =
 abbrev splice_texts : List Text
 splice_texts = codes "splice" ∷ codes "o" ∷ codes "n" ∷ codes "os" ∷ codes "ns" ∷ codes "oc" ∷ codes "nc" ∷ []
 
-abbrev splice_sent : Option ℕ → OrderView
-splice_sent sent = splice_order (codes "o") (codes "n") (codes "os") (codes "ns") (codes "oc") (codes "nc") sent
+abbrev spliced : Option ℕ → Bool → OrderView
+spliced sent late = splice_order (codes "o") (codes "n") (codes "os") (codes "ns") (codes "oc") (codes "nc") sent late
 
 abbrev pub SpliceWords : Type 0
 SpliceWords =
-    (names : Names) → Asks (ttx_app names) splice_texts (Ok (splice_sent None))
-    × Asks (ttx_app names) (splice_texts ++ codes "--sent" ∷ codes "0" ∷ []) (Ok (splice_sent (Some 0)))
-    × Asks (ttx_app names) (splice_texts ++ codes "--sent" ∷ codes "4294967295" ∷ []) (Ok (splice_sent (Some 4294967295)))
+    (names : Names) → Asks (ttx_app names) splice_texts (Ok (spliced None false))
+    × Asks (ttx_app names) (splice_texts ++ codes "--sent" ∷ codes "0" ∷ []) (Ok (spliced (Some 0) false))
+    × Asks (ttx_app names) (splice_texts ++ codes "--sent" ∷ codes "4294967295" ∷ codes "--late" ∷ []) (Ok (spliced (Some 4294967295) true))
     × (fault_of (ttx_app names) (splice_texts ++ codes "--sent" ∷ codes "4294967296" ∷ []) ≡ ValueValidation ∷ [])
+
+abbrev wait_texts : List Text
+wait_texts = codes "wait" ∷ codes "c" ∷ codes "s" ∷ []
+
+abbrev waited : Bool → Bool → OrderView
+waited items numbers = wait_order (codes "c") (codes "s") 1 Any items numbers
+
+abbrev pub WaitWords : Type 0
+WaitWords =
+    (names : Names) → Asks (ttx_app names) wait_texts (Ok (waited false false))
+    × Asks (ttx_app names) (wait_texts ++ codes "--items" ∷ []) (Ok (waited true false))
+    × Asks (ttx_app names) (wait_texts ++ codes "--numbers" ∷ []) (Ok (waited false true))
+    × Asks (ttx_app names) (wait_texts ++ codes "--numbers" ∷ codes "--items" ∷ []) (Ok (waited true true))
 
 abbrev monitor_texts : List Text
 monitor_texts = codes "monitor" ∷ codes "c" ∷ codes "s" ∷ codes "k" ∷ codes "-" ∷ []

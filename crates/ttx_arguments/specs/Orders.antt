@@ -66,8 +66,8 @@ pub data OrderView : Type 0 where
   receive_order : (cycle : Text) → (tuning : Tuning) → OrderView
   show_order : (cycle : Text) → (tuning : Tuning) → (look : LookView) → OrderView
   preview_order : (service : Text) → (selection : Selection) → (look : LookView) → OrderView
-  splice_order : (old new old_service new_service old_certificate new_certificate : Text) → (sent : Option ℕ) → OrderView
-  wait_order : (cycle service : Text) → (repeat : ℕ) → (class : Class) → (items : Bool) → OrderView
+  splice_order : (old new old_service new_service old_certificate new_certificate : Text) → (sent : Option ℕ) → (late : Bool) → OrderView
+  wait_order : (cycle service : Text) → (repeat : ℕ) → (class : Class) → (items numbers : Bool) → OrderView
   send_order : (cycle : Text) → (timing : TimingView) → (sending : Sending) → (force : Bool) → OrderView
   monitor_order : (cycle service certificate feed : Text) → (start : Option ℕ) → OrderView
   pages_order : (cycle : Text) → OrderView
@@ -87,8 +87,8 @@ order_view (Receive cycle tuning) = receive_order cycle.now tuning
 order_view (Show cycle tuning look) = show_order cycle.now tuning (look_view look)
 order_view (Preview service selection look) = preview_order service.now selection (look_view look)
 order_view (Splice o) =
-    splice_order o.old.now o.new.now o.old_service.now o.new_service.now o.old_certificate.now o.new_certificate.now o.sent
-order_view (Wait o) = wait_order o.cycle.now o.service.now o.repeat o.class o.items
+    splice_order o.old.now o.new.now o.old_service.now o.new_service.now o.old_certificate.now o.new_certificate.now o.sent o.late
+order_view (Wait o) = wait_order o.cycle.now o.service.now o.repeat o.class o.items o.numbers
 order_view (Send o) = send_order o.cycle.now (timing_view o.timing) o.sending o.force
 order_view (Monitor o) = monitor_order o.cycle.now o.service.now o.certificate.now o.feed.now o.start
 order_view (Pages cycle) = pages_order cycle.now
@@ -262,11 +262,12 @@ abbrev pub splice_asked : List Row → OrderView
 splice_asked rows =
     splice_order (text_at argument.Old rows) (text_at argument.New rows) (text_at argument.OldService rows) (text_at argument.NewService rows)
     (text_at argument.OldCertificate rows) (text_at argument.NewCertificate rows) (number_given argument.Sent rows)
+    (is_set argument.SplicedLate rows)
 
 abbrev pub wait_at : List Row → OrderView
 wait_at rows =
     wait_order (text_at argument.Cycle rows) (text_at argument.Service rows) (repeat_at rows)
-    (class_named (text_at argument.Class rows)) (is_set argument.Items rows)
+    (class_named (text_at argument.Class rows)) (is_set argument.Items rows) (is_set argument.WaitNumbers rows)
 
 abbrev pub monitor_at : List Row → OrderView
 monitor_at rows =

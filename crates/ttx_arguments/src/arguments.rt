@@ -59,7 +59,9 @@ pub enum Argument {
     PlannedLate,
     Spread,
     Late,
+    SplicedLate,
     Numbers,
+    WaitNumbers,
     Twice,
     Reveal,
     Items,
@@ -102,9 +104,9 @@ impl Argument {
             Argument::Within => "within",
             Argument::Save => "save",
             Argument::At => "at",
-            Argument::PlannedLate | Argument::Late => "late",
+            Argument::PlannedLate | Argument::Late | Argument::SplicedLate => "late",
             Argument::Spread => "spread",
-            Argument::Numbers => "numbers",
+            Argument::Numbers | Argument::WaitNumbers => "numbers",
             Argument::Twice => "twice",
             Argument::Reveal => "reveal",
             Argument::Items => "items",
@@ -150,7 +152,9 @@ impl Argument {
             Argument::PlannedLate
             | Argument::Spread
             | Argument::Late
+            | Argument::SplicedLate
             | Argument::Numbers
+            | Argument::WaitNumbers
             | Argument::Twice
             | Argument::Reveal
             | Argument::Items
@@ -198,7 +202,9 @@ impl Argument {
             Argument::PlannedLate => help::PLANNED_LATE_OPTION,
             Argument::Spread => help::SPREAD_OPTION,
             Argument::Late => help::LATE_OPTION,
+            Argument::SplicedLate => help::SPLICED_LATE_OPTION,
             Argument::Numbers => help::NUMBERS_OPTION,
+            Argument::WaitNumbers => help::WAIT_NUMBERS_OPTION,
             Argument::Twice => help::TWICE_OPTION,
             Argument::Reveal => help::REVEAL_OPTION,
             Argument::Items => help::ITEMS_OPTION,
@@ -225,7 +231,9 @@ impl Argument {
             Argument::PlannedLate
             | Argument::Spread
             | Argument::Late
+            | Argument::SplicedLate
             | Argument::Numbers
+            | Argument::WaitNumbers
             | Argument::Twice
             | Argument::Reveal
             | Argument::Items

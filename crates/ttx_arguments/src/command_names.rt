@@ -166,9 +166,9 @@ impl CommandName {
             CommandName::Preview => &[Argument::Service, Argument::Page, Argument::Form, Argument::Reveal],
             CommandName::Splice => &[
                 Argument::Old, Argument::New, Argument::OldService,
-                Argument::NewService, Argument::OldCertificate, Argument::NewCertificate, Argument::Sent,
+                Argument::NewService, Argument::OldCertificate, Argument::NewCertificate, Argument::Sent, Argument::SplicedLate,
             ],
-            CommandName::Wait => &[Argument::Cycle, Argument::Service, Argument::Repeat, Argument::Class, Argument::Items],
+            CommandName::Wait => &[Argument::Cycle, Argument::Service, Argument::Repeat, Argument::Class, Argument::Items, Argument::WaitNumbers],
             CommandName::Send => &[
                 Argument::Cycle, Argument::At, Argument::Fields, Argument::NeededLines,
                 Argument::Phase, Argument::Offset, Argument::Zone, Argument::Force,

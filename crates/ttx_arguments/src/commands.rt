@@ -227,6 +227,7 @@ pub(crate) fn splice_of<'a>(values: &ArgMatches<'a>) -> Order<'a>
         old_certificate: text_of(values, Argument::OldCertificate),
         new_certificate: text_of(values, Argument::NewCertificate),
         sent: given_number(values, Argument::Sent),
+        late: is_set(values, Argument::SplicedLate),
     })
 }
 
@@ -239,6 +240,7 @@ pub(crate) fn wait_of<'a>(values: &ArgMatches<'a>) -> Order<'a>
         repeat: repeat_of(values),
         class: class_of(values),
         items: is_set(values, Argument::Items),
+        numbers: is_set(values, Argument::WaitNumbers),
     })
 }
 

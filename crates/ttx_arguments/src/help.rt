@@ -310,6 +310,8 @@ Arguments:
 Options:
       --sent <PERIODS>  Whole periods for which OLD has been on the air, 0 to
                         4294967295; without it, OLD counts as sent for ever
+      --late            Judge also for receivers that show a page only where it
+                        ends
   -h, --help            Print help
 
 OLD is sent again and again; then, at the end of a period, NEW is sent again and
@@ -329,6 +331,18 @@ NEWCERT, in this order, to their ends. Writes the verdict to standard output:
                             time
   no 6 too-soon SLOTS       with --sent: OLD has been sent for SLOTS slots fewer
                             than D fields
+  no 7 amid PAGE SLOT       with --late: when OLD ends, not all of PAGE has come
+                            under its last header, in slot SLOT of OLD
+  no 8 stored PAGE SLOT     with --late: slot SLOT of NEW would still be stored
+                            in PAGE of OLD, and differs from it
+  no 9 unfollowed PAGE      with --late: the first header of NEW that could end
+                            PAGE of OLD is missing, or has its page number
+
+With --late, receivers may show a page only where another page number ends it.
+A yes then means also: for each page number that both cycles send whole, as
+certify --late --numbers says and as plan sends it, once a page that began after
+tuning has ended, such a receiver shows a page of OLDSERVICE or of NEWSERVICE,
+whole, at every time, if all text is received right.
 
 With --sent, OLD may itself have begun with a change. If the answer to each
 change of a service is yes, each page is seen right from D fields after tuning,
@@ -376,6 +390,15 @@ one of
 and after the line of all pages comes, if CYCLE has pages that SERVICE lacks,
   not in the service: PAGE ..
 
+With --numbers, the last lines are of the page numbers with several pages, in
+the order of their first pages, each one of
+  MPP N subpages, each at least S s, again within T s
+      a receiver that shows a page where it ends, and is set to the number,
+      shows each of its N pages for S seconds or longer, and again after at
+      most T seconds from its start to its next
+  MPP N subpages, not all sent
+      CYCLE has no header of one of them
+
 Statuses:
   0  there is a deadline for all pages, and none is too late
   1  there is none, or a page is too late
@@ -385,6 +408,12 @@ Statuses:
   3  fault: file, fault: read, fault: write, fault: memory";
 
 pub(crate) const ITEMS_OPTION: &str = "Write a line for each item of each page, too";
+
+pub(crate) const WAIT_NUMBERS_OPTION: &str =
+    "Write a line for each page number with several pages, too";
+
+pub(crate) const SPLICED_LATE_OPTION: &str =
+    "Judge also for receivers that show a page only where it ends";
 
 pub(crate) const SEND_MORE: &str =
     "Reads CYCLE to its end. Writes N fields of L slots of 42 bytes each: the cycle

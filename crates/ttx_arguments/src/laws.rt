@@ -1,6 +1,6 @@
 //! What some words ask for, computed from the definitions: examples that hold the grammar and the orders to what a user types.
 
-ghost use Rattle.ttx_arguments.specs.Examples.{VersionWords, CertifyWords, SendWords, PlanWords, SecondsTexts, FindWords, RepeatWords, SpliceWords, MonitorWords, TwiceWords};
+ghost use Rattle.ttx_arguments.specs.Examples.{VersionWords, CertifyWords, SendWords, PlanWords, SecondsTexts, FindWords, RepeatWords, SpliceWords, WaitWords, MonitorWords, TwiceWords};
 
 /// `--version` and `-V` ask for the version, also before other words.
 pub fn version_words()
@@ -39,9 +39,14 @@ pub fn repeat_words()
     ensures { RepeatWords }
 {}
 
-/// `splice` takes the periods for which OLD has been on the air, and no number of them is not 0.
+/// `splice` takes the periods for which OLD has been on the air, and no number of them is not 0; and `--late`.
 pub fn splice_words()
     ensures { SpliceWords }
+{}
+
+/// `wait` takes `--items` and `--numbers`, alone and together.
+pub fn wait_words()
+    ensures { WaitWords }
 {}
 
 /// `monitor` takes the slot with which the feed begins, and no slot is not 0; the feed is an input.

@@ -18,7 +18,7 @@ mod values;
 
 pub use laws::{
     certify_words, find_words, monitor_words, plan_words, repeat_words, seconds_texts, send_words,
-    splice_words, twice_words, version_words,
+    splice_words, twice_words, version_words, wait_words,
 };
 pub use moments::Moment;
 pub use orders::{

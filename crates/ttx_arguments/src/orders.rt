@@ -151,6 +151,8 @@ pub struct SpliceOrder<'a> {
     pub new_certificate: &'a str,
     /// For how many whole periods OLD has been on the air; without it nothing is asked of how long it has been.
     pub sent: Option<u32>,
+    /// For receivers that show a page only where it ends, too.
+    pub late: bool,
 }
 
 /// What `wait` is asked for.
@@ -162,6 +164,8 @@ pub struct WaitOrder<'a> {
     pub class: Class,
     /// Whether each item of a page has a line, too.
     pub items: bool,
+    /// Whether each number with several pages has a line, too.
+    pub numbers: bool,
 }
 
 /// What `monitor` is asked for.

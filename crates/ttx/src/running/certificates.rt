@@ -171,6 +171,15 @@ pub fn find(rt: &HostRuntime, order: &FindOrder<'_>) -> Outcome {
     }
 }
 
+// Which lines there are.
+fn detail_of(order: &WaitOrder<'_>) -> Detail {
+    if order.items {
+        Detail::Items
+    } else {
+        Detail::Pages
+    }
+}
+
 // The status is 0 where there is a deadline for all pages, else 1.
 fn wait_in(
     rt: &HostRuntime,
@@ -178,25 +187,42 @@ fn wait_in(
     order: &WaitOrder<'_>,
 ) -> Result<u8, ToolFault> {
     let mut writer = Counted::new(io::writer(rt));
-    let detail = if order.items {
-        Detail::Items
-    } else {
-        Detail::Pages
-    };
     commands::wait::run(
         rt.alloc(),
         &mut readers.cycle,
         &mut readers.service,
         order.repeat.count(),
         order.class,
-        detail,
+        detail_of(order),
+        &mut writer,
+    )
+}
+
+// The same with a line for each page number with several pages.
+fn wait_in_numbers(
+    rt: &HostRuntime,
+    readers: &mut SentServiceReaders,
+    order: &WaitOrder<'_>,
+) -> Result<u8, ToolFault> {
+    let mut writer = Counted::new(io::writer(rt));
+    commands::wait_numbers::run(
+        rt.alloc(),
+        &mut readers.cycle,
+        &mut readers.service,
+        order.repeat.count(),
+        order.class,
+        detail_of(order),
         &mut writer,
     )
 }
 
 fn wait_for(rt: &HostRuntime, inputs: SentService, order: &WaitOrder<'_>) -> Result<u8, ToolFault> {
     let mut readers = inputs.readers(rt)?;
-    wait_in(rt, &mut readers, order)
+    if order.numbers {
+        wait_in_numbers(rt, &mut readers, order)
+    } else {
+        wait_in(rt, &mut readers, order)
+    }
 }
 
 /// Opens the cycle and the service, and tells how long viewers of each page wait.

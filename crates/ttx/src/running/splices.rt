@@ -83,13 +83,34 @@ fn splice_readers_sent(
     )
 }
 
+// The same for receivers that show a page only where it ends, too.
+fn splice_readers_late(
+    rt: &HostRuntime,
+    readers: &mut SpliceReaders,
+    sent: Option<u32>,
+) -> Result<u8, ToolFault> {
+    let mut writer = Counted::new(io::writer(rt));
+    commands::splice_late::run(
+        rt.alloc(),
+        &mut readers.cycles.old,
+        &mut readers.cycles.new,
+        &mut readers.services.old,
+        &mut readers.services.new,
+        &mut readers.certificates.old,
+        &mut readers.certificates.new,
+        sent,
+        &mut writer,
+    )
+}
+
 fn splice_inputs(
     rt: &HostRuntime,
     inputs: SpliceInputs,
-    sent: Option<u32>,
+    order: &SpliceOrder<'_>,
 ) -> Result<u8, ToolFault> {
     let mut readers = buffered_all(rt, inputs)?;
-    match sent {
+    match order.sent {
+        sent if order.late => splice_readers_late(rt, &mut readers, sent),
         None => splice_readers(rt, &mut readers),
         Some(periods) => splice_readers_sent(rt, &mut readers, periods),
     }
@@ -112,5 +133,5 @@ pub fn splice(rt: &HostRuntime, order: &SpliceOrder<'_>) -> Outcome {
         services,
         certificates,
     };
-    Ok(status_of(rt, splice_inputs(rt, inputs, order.sent)))
+    Ok(status_of(rt, splice_inputs(rt, inputs, order)))
 }
