@@ -8,7 +8,7 @@ returns-in-Ok c =
     let said = c.in-Ok.ensures.value.0 in
     let same : to_z w32 (of_z w32 c.in-Ok.number) ≡ c.in-Ok.number = search rules in
     let small : unsigned_abs c.in-Ok.number < 1000 =
-      subst (λ n. unsigned_abs n < 1000) same (subst (λ n. n < 1000) c.unsigned_abs.ensures.value c.if-unsigned_abs-lt1000.true) in
+    subst (λ n. unsigned_abs n < 1000) same (subst (λ n. n < 1000) c.unsigned_abs.ensures.value c.if-unsigned_abs-lt1000.true) in
     ap Some same ∙ signed_small c.args.text.now _ said.0 said.1 small
 
 pub returns-in_default-2 : goal.returns-in_default-2

@@ -13,5 +13,5 @@ returns c =
     let value : c.unwrap.result.seconds ≡ pos 1800 *ℤ c.args.offset.now = search rules in
     let seconds : to_z w32 (of_z w32 c.seconds-seconds.result) ≡ pos 1800 *ℤ c.args.offset.now = search rules in
     let before = subst (λ (n : ℕ). Begins (plain_zone c.fixed-zone.result) now n start c.begun.result) (c.seconds_ahead.ensures.value ∙ ap ahead seconds)
-      c.begun.ensures in
+    c.begun.ensures in
     (c.unwrap.result, value, subst (λ (z : TimeZone). Begins z now (ahead (pos 1800 *ℤ c.args.offset.now)) start c.begun.result) c.fixed-zone.ensures before)
