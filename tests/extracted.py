@@ -184,7 +184,10 @@ def slots_of(path):
 def services(count):
     """Services with their names."""
     for path in sorted((TOP / "examples").glob("*.toml")):
-        yield path.name, path.read_text()
+        text = path.read_text()
+        # an author's text is no service text
+        if "author" not in tomllib.loads(text):
+            yield path.name, text
     for number in range(count):
         draw = random.Random(7000 + number)
         yield f"service {number}", service(draw, 1 + number % 8, number // 8 % 2 == 0, number // 16 % 2 == 0)

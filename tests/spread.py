@@ -237,8 +237,8 @@ def wrong_plan(program, pages, lines, is_serial):
         return f"pages of {unshared(pages, places(pages))} stand together"
     if late:
         numbers = numbers_of(pages)
-        places = sorted(-index for _, index in late)
-        wanted = "".join(f"late {numbers[at]}/{pages[at]['sub']:04X} {told[at]} fields of {pages[at]['within']}\n" for at in places)
+        order = sorted(-index for _, index in late)
+        wanted = "".join(f"late {numbers[at]}/{pages[at]['sub']:04X} {told[at]} fields of {pages[at]['within']}\n" for at in order)
         return None if (status, line) == (1, wanted) else f"plan: {status} {line!r} and not {wanted!r}"
     if (status, line) != (0, f"planned {len(slots)} slots\n"):
         return f"plan: {status} {line}"
