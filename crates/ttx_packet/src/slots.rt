@@ -33,7 +33,7 @@ fn text_of(bytes: &[u8; 42]) -> &[u8; 40]
     bytes.last_chunk::<40>().unwrap()
 }
 
-// Whether all bytes are zero. No bit is set in their union.
+// Whether all bytes are zero: no bit is set in their union.
 fn is_zero(bytes: &[u8]) -> bool
     ensures { result ≡ is_empty bytes.now }
 {
@@ -42,6 +42,13 @@ fn is_zero(bytes: &[u8]) -> bool
         union |= bytes[i];
     }
     union == 0
+}
+
+// Whether the slot is empty. The first byte of a packet is seldom zero, so it is tried first.
+fn is_empty_slot(bytes: &[u8; 42]) -> bool
+    ensures { result ≡ is_empty bytes.now }
+{
+    bytes[0] == 0 && is_zero(bytes)
 }
 
 // Whether all bytes are readable as Hamming 8/4.
@@ -84,7 +91,7 @@ fn packet_of<'a>(bytes: &'a [u8; 42], at: Address) -> Slot<'a>
 pub fn slot_of<'a>(bytes: &'a [u8; 42]) -> Slot<'a>
     ensures { Lends result bytes.now }
 {
-    if is_zero(bytes) {
+    if is_empty_slot(bytes) {
         return Slot::Empty;
     }
     let Some(low) = unham(bytes[0]) else {
@@ -118,7 +125,7 @@ fn number_of(bytes: &[u8; 42]) -> u8
 pub fn clean(bytes: &[u8; 42]) -> bool
     ensures { result ≡ is_clean bytes.now }
 {
-    is_zero(bytes)
+    is_empty_slot(bytes)
         || are_code_words(&bytes[0..2])
             && match number_of(bytes) {
                 0 => are_code_words(&bytes[2..10]),
