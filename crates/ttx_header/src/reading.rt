@@ -29,11 +29,9 @@ fn clock_of(bytes: &[u8; 42]) -> [u8; 8]
 pub fn read_header(bytes: &[u8; 42]) -> Option<Header>
     ensures { SomeIff result (is_header bytes.now ≡ true) (header_fields_of bytes.now) }
 {
-    if !is_readable(&bytes[0..10]) {
-        return None;
-    }
+    // Most packets are rows, so the packet number is looked at first.
     let low = number_at(bytes, 0);
-    if low / 8 + 2 * number_at(bytes, 1) != 0 {
+    if low / 8 + 2 * number_at(bytes, 1) != 0 || !is_readable(&bytes[0..10]) {
         return None;
     }
     let [s1, s2, s3, s4] = [
