@@ -1,0 +1,11 @@
+//! The reasons of rejections: one table of what each means and what to do, and the text that `explain` writes.
+#![tactic(auto)]
+
+mod entry;
+mod explaining;
+mod names;
+mod reasons;
+
+pub use entry::Entry;
+pub use explaining::{Explained, explain};
+pub use reasons::REASONS;
