@@ -27,21 +27,21 @@ pub record CoverLaws : Type 0 where
 
 module _ (laws : CoverLaws) (cycle : List (List ℕ)) (some : 1 ≤ length cycle) (p : Page) (w : Certificate) (is : IsCertificate w)
     (item : Item) (need : needed p item ≡ true) where
-  abbrev Right : Type 0
+  abbrev pub Right : Type 0
   Right = IsCovered cycle p w item ⊎ IsLeftOut cycle p w item
 
   not_named : (start : ℕ) → w.starts p.id item ≡ [] → Contains (w.starts p.id item) start → ⊥
   not_named start e c = let lt = c.1 in let z : length (w.starts p.id item) ≡ 0 = ap length e in omega arith
 
-  no_witness_not : HasNoWitness p w item → Right → ⊥
+  pub no_witness_not : HasNoWitness p w item → Right → ⊥
   no_witness_not h (inl c) = not_named c.named.0 h.none c.named.1
   no_witness_not h (inr l) = h.sent l.clearing l.blank
 
-  bad_not : (start : ℕ) → WitnessBadAt cycle p w item start → Right → ⊥
+  pub bad_not : (start : ℕ) → WitnessBadAt cycle p w item start → Right → ⊥
   bad_not start b (inl c) = b.bad (c.sure start b.named)
   bad_not start b (inr l) = not_named start l.no_line b.named
 
-  late_not : (start : ℕ) → LateAt cycle p w item start → Right → ⊥
+  pub late_not : (start : ℕ) → LateAt cycle p w item start → Right → ⊥
   late_not start l (inl c) =
       let one = some_run w.repeat item is.some_repeats in
       let k = run_length w.repeat item - 1 in
@@ -51,7 +51,7 @@ module _ (laws : CoverLaws) (cycle : List (List ℕ)) (some : 1 ≤ length cycle
       (subst (IsLateAnswer cycle p w item) passes.none_late told).1 start l
   late_not start l (inr o) = let lt = l.within in let z : length (w.starts p.id item) ≡ 0 = ap length o.no_line in omega arith
 
-  late_blank_not : (header : ℕ) → LateBlankAt cycle p w item header → Right → ⊥
+  pub late_blank_not : (header : ℕ) → LateBlankAt cycle p w item header → Right → ⊥
   late_blank_not header l (inl c) = not_named c.named.0 l.none c.named.1
   late_blank_not header l (inr o) =
       let i = o.in_time (pos header +ℤ pos 1) in

@@ -13,3 +13,5 @@ mod OneVerdict
 pub mod Decisions
 mod SomeFault
 mod SomeVerdict
+mod TrueReasons
+mod ToldPages

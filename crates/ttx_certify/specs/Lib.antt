@@ -1,8 +1,10 @@
 pub mod Seen
 pub mod ItemReasons
 pub mod Verdicts
+pub mod AllReasons
 pub mod Walking
 pub mod VerdictLines
+pub mod AllLines
 pub mod CertifyingFiles
 pub mod CertifyingPasses
 pub mod Laws

@@ -5,9 +5,11 @@ ghost use Rattle.std.specs.List.{AllPairs};
 ghost use Rattle.ttx_cycle.specs.Cycles.{slots_of};
 ghost use Rattle.ttx_page.specs.Views.{page_of, ids_of};
 ghost use Rattle.ttx_witness.specs.Certificates.{certificate_of};
+ghost use Rattle.ttx_certify.specs.AllReasons.{AreReasons};
 ghost use Rattle.ttx_certify.specs.Verdicts.{IsVerdict, Means};
 ghost use Rattle.ttx_certify.specs.Walking.{Starts, Stands, walk_pages, walk_certificate, second_pages, second_certificate};
 
+use crate::all_reasons::AllReasons;
 use crate::verdict::Verdict;
 use crate::walking::{Second, Walk};
 use std::alloc::Global;
@@ -62,4 +64,26 @@ pub fn certify(
     let mut second = walk.begin_second();
     second_pass(&mut second, cycle);
     Ok(second.finish())
+}
+
+/// The verdict of `certify`, and for each page of the list its first reason: the smallest number, and the smallest slot or item and start.
+/// A page has one exactly if some reason is true of it. A bad slot is no reason of a page.
+pub fn certify_all(
+    alloc: Global,
+    cycle: &Cycle,
+    pages: &[Page],
+    certificate: &Certificate,
+) -> Result<AllReasons, NoMemory>
+    requires distinct { AllPairs (λ a b. a ≢ b) (ids_of pages.now) }
+    ensures exact { IfOk result (λ all.
+        IsVerdict (slots_of cycle.now) (map page_of pages.now) (certificate_of certificate.now) all.verdict) }
+    ensures seen { IfOk result (λ all. Means (slots_of cycle.now) (map page_of pages.now) (certificate_of certificate.now) all.verdict) }
+    ensures reasons { IfOk result (λ all.
+        AreReasons (slots_of cycle.now) (map page_of pages.now) (certificate_of certificate.now) all.pages.items) }
+{
+    let mut walk = Walk::new(alloc, pages, certificate)?;
+    first_pass(&mut walk, cycle);
+    let mut second = walk.begin_second();
+    second_pass(&mut second, cycle);
+    second.finish_all(alloc)
 }

@@ -10,8 +10,8 @@ use crate::page_reasons::witness_fault;
 use crate::verdict::Verdict;
 use ttx_witness::{EndedPass, Reason};
 
-// The first fault of the page at `index`.
-fn fault_at(ended: &EndedPass, index: usize) -> Option<Reason>
+/// The first fault of the page at `index`.
+pub fn fault_at(ended: &EndedPass, index: usize) -> Option<Reason>
     requires { index < length ended.now.pages.now }
     ensures { (y : List (List ℕ)) (p : definitions.Page) → IsEnded ended.now y → slice_get (ended_pages ended.now) index ≡ Some p →
         IsFault y (ended_pages ended.now) p (ended_certificate ended.now) result }

@@ -4,6 +4,9 @@
 //! end. If the second one ends with other headers, the verdict is `Unsteady`.
 #![tactic(auto)]
 
+mod all_files;
+mod all_lines;
+mod all_reasons;
 mod certifying;
 mod files;
 mod item_reasons;
@@ -19,11 +22,14 @@ pub mod verdict_laws;
 mod verdict_lines;
 mod walking;
 
-pub use certifying::certify;
+pub use all_files::certify_files_all;
+pub use all_lines::{all_text, reasons_in};
+pub use all_reasons::{AllReasons, PageReason};
+pub use certifying::{certify, certify_all};
 pub use files::certify_files;
 pub use passes::certify_passes;
 pub use receiving::receive;
-pub use services::{certify_service, find_service};
+pub use services::{certify_all_of_service, certify_service, find_service};
 pub use ttx_files::{FilesFault, TextFile};
 pub use ttx_witness::WalkFault;
 pub use verdict::Verdict;

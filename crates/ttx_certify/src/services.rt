@@ -5,9 +5,11 @@ ghost use Rattle.ttx_cycle.specs.Cycles.{slots_of};
 ghost use Rattle.ttx_source.specs.Services.{pages_of};
 ghost use Rattle.ttx_witness.specs.Certificates.{certificate_of};
 ghost use Rattle.ttx_witness.specs.finding.Finding.{IsFoundFor};
+ghost use Rattle.ttx_certify.specs.AllReasons.{AreReasons};
 ghost use Rattle.ttx_certify.specs.Verdicts.{IsVerdict, Means};
 
-use crate::certifying::certify;
+use crate::all_reasons::AllReasons;
+use crate::certifying::{certify, certify_all};
 use crate::verdict::Verdict;
 use std::alloc::Global;
 use ttx_cycle::Cycle;
@@ -26,6 +28,20 @@ pub fn certify_service(
     ensures seen { IfOk result (Means (slots_of cycle.now) (pages_of service.now) (certificate_of certificate.now)) }
 {
     certify(alloc, cycle, service.pages(), certificate)
+}
+
+/// The verdict of `certify_all` on the pages of a service, and their first reasons.
+pub fn certify_all_of_service(
+    alloc: Global,
+    cycle: &Cycle,
+    service: &Service,
+    certificate: &Certificate,
+) -> Result<AllReasons, NoMemory>
+    ensures exact { IfOk result (λ all. IsVerdict (slots_of cycle.now) (pages_of service.now) (certificate_of certificate.now) all.verdict) }
+    ensures seen { IfOk result (λ all. Means (slots_of cycle.now) (pages_of service.now) (certificate_of certificate.now) all.verdict) }
+    ensures reasons { IfOk result (λ all. AreReasons (slots_of cycle.now) (pages_of service.now) (certificate_of certificate.now) all.pages.items) }
+{
+    certify_all(alloc, cycle, service.pages(), certificate)
 }
 
 /// The certificate that `find_for` finds for the pages of a service, with its lines of a field. `repeat` is 1 to 8.

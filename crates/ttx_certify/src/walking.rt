@@ -1,6 +1,7 @@
 //! The streaming walk: decides slot by slot, in two passes, whether a cycle is accepted, and keeps no slot. The verdict does not depend
 //! on the first pass being right: if the second pass does not bear it out, the verdict is `Unsteady`.
 
+use crate::all_reasons::{AllReasons, judge_all};
 use crate::judging::judge;
 use crate::verdict::Verdict;
 use std::alloc::Global;
@@ -67,7 +68,9 @@ impl<'a> Walk<'a> {
 }
 
 impl<'a> Second<'a> {
-    ghost use Rattle.std.specs.Prelude.{◌≡◌, ◌++◌, ◌∷◌, [], ℕ, List};
+    ghost use Rattle.std.specs.Prelude.{◌≡◌, ◌++◌, ◌∷◌, [], ℕ, List, IfOk};
+    ghost use Rattle.ttx_witness.specs.passes.Passing.{IsBorneOut};
+    ghost use Rattle.ttx_certify.specs.AllReasons.{AreReasons};
     ghost use Rattle.ttx_certify.specs.Verdicts.{Means};
     ghost use Rattle.ttx_certify.specs.Walking.{Stands, IsWalkVerdict, second_pages, second_certificate};
 
@@ -94,6 +97,26 @@ impl<'a> Second<'a> {
         match self.pass.end() {
             Some(ended) => judge(&ended),
             None => Verdict::No(Reason::Unsteady),
+        }
+    }
+    /// The verdict of `finish`, and the first reason of each page for the second list; no reasons where the verdict is `Unsteady`.
+    pub fn finish_all(self, alloc: Global) -> Result<AllReasons, NoMemory>
+        ensures verdict { IfOk result (λ all. (x y : List (List ℕ)) → Stands self.entry x y →
+            IsWalkVerdict x y (second_pages self.entry) (second_certificate self.entry) all.verdict) }
+        ensures seen { IfOk result (λ all. (x y : List (List ℕ)) → Stands self.entry x y →
+            Means y (second_pages self.entry) (second_certificate self.entry) all.verdict) }
+        ensures reasons { IfOk result (λ all. (x y : List (List ℕ)) → Stands self.entry x y → IsBorneOut x y (second_pages self.entry) →
+            AreReasons y (second_pages self.entry) (second_certificate self.entry) all.pages.items) }
+    {
+        crate::laws::accepted_is_seen();
+        ttx_page::laws::pages_keep_their_rules();
+        ttx_witness::certificate_laws::certificates_keep_their_rules();
+        match self.pass.end() {
+            Some(ended) => judge_all(alloc, &ended),
+            None => Ok(AllReasons {
+                verdict: Verdict::No(Reason::Unsteady),
+                pages: Vec::new(alloc),
+            }),
         }
     }
 }
