@@ -1,2 +1,3 @@
 mod Rising
 mod Listed
+mod ListedRecords

@@ -6,3 +6,5 @@ pub mod Firsts
 pub mod Counting
 pub mod Paging
 pub mod Laws
+pub mod Records
+pub mod CountedRecords

@@ -7,10 +7,12 @@ pub mod laws;
 mod lines;
 mod listing;
 mod paging;
+mod records;
 mod rest;
 mod tallies;
 
 pub use firsts::page_headers;
 pub use keys::Part;
 pub use listing::pages_text;
-pub use paging::pages;
+pub use paging::{pages, pages_json};
+pub use records::pages_records;

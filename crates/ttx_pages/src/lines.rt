@@ -37,7 +37,8 @@ fn push_quoted(text: &mut String, byte: u8) -> Result<(), AllocError>
     }
 }
 
-fn push_characters(text: &mut String, bytes: &[u8]) -> Result<(), AllocError>
+/// Appends the characters of bytes, escaped as in quotation marks.
+pub(crate) fn push_characters(text: &mut String, bytes: &[u8]) -> Result<(), AllocError>
     ensures { OnOk result (string_bytes text.new ≡ string_bytes text.old ++ quoted_text bytes.now) }
 {
     for byte in bytes {

@@ -14,12 +14,12 @@ use std::alloc::{AllocError, Global};
 use std::collections::BTreeMap;
 use ttx_header::read_header;
 
-// How many packets of each part each page has.
+/// How many packets of each part each page has.
 #[derive(Drop)]
-struct Sent {
-    heads: BTreeMap<u32, usize>,
-    rows: BTreeMap<u32, usize>,
-    links: BTreeMap<u32, usize>,
+pub(crate) struct Sent {
+    pub heads: BTreeMap<u32, usize>,
+    pub rows: BTreeMap<u32, usize>,
+    pub links: BTreeMap<u32, usize>,
 }
 
 // How many packets of one part each page has.
@@ -34,7 +34,8 @@ fn counts_of(
     tally(alloc, keys.as_slice())
 }
 
-fn all_counts(alloc: Global, slots: &[[u8; 42]]) -> Result<Sent, AllocError>
+/// The counts of all pages.
+pub(crate) fn all_counts(alloc: Global, slots: &[[u8; 42]]) -> Result<Sent, AllocError>
     ensures { IfOk result (λ all. CountsByPage Part.Head slots.now all.heads × CountsByPage Part.Row slots.now all.rows
         × CountsByPage Part.Links slots.now all.links) }
 {

@@ -6,8 +6,10 @@ ghost use Rattle.ttx_files.specs.Answers.{IsUntouched, is_write};
 ghost use Rattle.ttx_files.specs.Devices.{AtCycle, AtOutput, input, output, failed_at, IsFirstFailure, IsOf};
 ghost use Rattle.ttx_pages.specs.Listing.{pages_text};
 ghost use Rattle.ttx_pages.specs.Paging.{WritesTextOf};
+ghost use Rattle.ttx_pages.specs.Records.{pages_records};
 
 use crate::listing::pages_text;
+use crate::records::pages_records;
 use std::alloc::Global;
 use std::io::{Read, Write};
 use ttx_cycle::Counted;
@@ -33,4 +35,25 @@ pub fn pages<R: Read, W: Write>(
     let cycle = read_packets(alloc, reader)?;
     let text = pages_text(alloc, cycle.slots()).map_err(|_| FilesFault::NoMemory)?;
     write_line(writer, text.as_bytes())
+}
+
+/// The same as JSON objects with the names and values of the lines.
+///
+/// Nothing is written before the whole file has been read. At a `Write` fault exactly the first `written` bytes of the text have
+/// been written; at any other fault the writer is unchanged.
+pub fn pages_json<R: Read, W: Write>(
+    alloc: Global,
+    reader: &mut Counted<R>,
+    writer: &mut Counted<W>,
+) -> Result<(), FilesFault>
+    ensures bytes { IfSome (R.remaining (inner_of reader.old))
+        (λ bytes. WritesTextOf pages_records bytes (W.contents (inner_of writer.old)) (W.contents (inner_of writer.new)) result) }
+    ensures own { IfErr result (IsOf (AtCycle ∷ AtOutput ∷ [])) }
+    ensures faults { IsFirstFailure (input AtCycle (R.remaining (inner_of reader.old)) (faults_of reader.old) (faults_of reader.new)
+        ∷ output (faults_of writer.old) (faults_of writer.new) ∷ []) (failed_at result) }
+    ensures untouched { IsUntouched is_write result writer.old writer.new }
+{
+    let listed = read_packets(alloc, reader)?;
+    let objects = pages_records(alloc, listed.slots()).map_err(|_| FilesFault::NoMemory)?;
+    write_line(writer, objects.as_bytes())
 }

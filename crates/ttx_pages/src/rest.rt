@@ -50,31 +50,36 @@ fn is_corrected(slot: &[u8; 42]) -> bool
     !is_unreadable(slot) && !clean(slot)
 }
 
-fn infos(slots: &[[u8; 42]]) -> usize
+/// How many packets 8/30 there are.
+pub(crate) fn infos(slots: &[[u8; 42]]) -> usize
     ensures { result ≡ count_by is_info slots.now }
 {
     slots.iter().filter(|slot| is_info(slot)).count()
 }
 
-fn others(slots: &[[u8; 42]]) -> usize
+/// How many other packets there are.
+pub(crate) fn others(slots: &[[u8; 42]]) -> usize
     ensures { result ≡ count_by is_other_packet slots.now }
 {
     slots.iter().filter(|slot| is_other_packet(slot)).count()
 }
 
-fn blanks(slots: &[[u8; 42]]) -> usize
+/// How many empty slots there are.
+pub(crate) fn blanks(slots: &[[u8; 42]]) -> usize
     ensures { result ≡ count_by is_empty_slot slots.now }
 {
     slots.iter().filter(|slot| is_empty_slot(slot)).count()
 }
 
-fn unreadables(slots: &[[u8; 42]]) -> usize
+/// How many slots that cannot be read there are.
+pub(crate) fn unreadables(slots: &[[u8; 42]]) -> usize
     ensures { result ≡ count_by is_unreadable slots.now }
 {
     slots.iter().filter(|slot| is_unreadable(slot)).count()
 }
 
-fn correcteds(slots: &[[u8; 42]]) -> usize
+/// How many packets that have to be corrected there are.
+pub(crate) fn correcteds(slots: &[[u8; 42]]) -> usize
     ensures { result ≡ count_by is_corrected slots.now }
 {
     slots.iter().filter(|slot| is_corrected(slot)).count()

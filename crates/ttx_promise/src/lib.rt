@@ -25,4 +25,4 @@ pub use promised_reports::{
     PromisedReport, Reported, report_promised_items, report_promises, report_promises_with,
 };
 pub use ttx_wait::Detail;
-pub use waits_and_promises::{PromisedWait, promised_waits, some_late};
+pub use waits_and_promises::{PromisedWait, promised_waits, some_late, with_promises};

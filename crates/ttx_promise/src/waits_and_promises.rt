@@ -56,7 +56,7 @@ fn promise_of(promises: &[Promise], page: usize) -> Option<u32>
 }
 
 /// The waits of pages, each beside the promise of its page.
-pub(crate) fn with_promises(
+pub fn with_promises(
     alloc: Global,
     told: &[PageWait],
     promises: &[Promise],
