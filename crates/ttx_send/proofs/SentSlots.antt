@@ -1,11 +1,11 @@
 -- Slots as they are sent, one after the other.
-use Rattle.std.proofs.Common.{[], ◌≡◌, ℕ, zero, suc, ◌+◌, ◌<◌, ◌≤◌, ◌*◌, ◌-◌, ◌/◌, ℤ, pos, ◌+ℤ◌, List, ◌∷◌, ◌++◌, length, take, append_assoc}
+use Rattle.std.proofs.Common.{[], ◌≡◌, ℕ, zero, suc, ◌+◌, ◌<◌, ◌≤◌, ◌*◌, ◌-◌, ◌/◌, ◌%◌, ℤ, pos, ◌+ℤ◌, List, ◌∷◌, ◌++◌, length, take, append_assoc}
 use Rattle.std.proofs.Common.{refl, sym, ap, ◌∙◌, arith, get_or}
 use Rattle.std.proofs.lemmas.Int.{ints}
 use Rattle.std.proofs.lemmas.Grind.{flat_map-append}
 use Rattle.std.proofs.lemmas.List.{append-nil}
 use Rattle.std.proofs.lemmas.Nat.{div-mul-add}
-use Rattle.std.proofs.Math.Nat.{add-mul, one-mul, mul-le-mul_right, mul-add-div_right, div-lt_iff_lt-mul}
+use Rattle.std.proofs.Math.Nat.{add-mul, one-mul, mul-le-mul_right, mul-add-div_right, div-lt_iff_lt-mul, mod-add-div, add-mul-mod_self_left}
 use Rattle.std.proofs.Math.Seq.{take-append-add}
 use Rattle.std.proofs.lemmas.List.{take-append-le}
 use Rattle.ttx_cycle.specs.Files.{file_of}
@@ -13,6 +13,13 @@ use Rattle.ttx_page.specs.Streams.{Stream, repeated}
 use Rattle.ttx_page.specs.Laws.{sent_from}
 use Rattle.ttx_send.specs.Laws.{SentFileIsTheAir}
 use Rattle.ttx_send.specs.Airing.{at_time, field_time, at_moment, Broadcast, on_air, sent_slots}
+
+-- the place after place (first + n) of m places, round
+pub next_round : (first n m : ℕ) → ((first + n) % m + 1) % m ≡ (first + (n + 1)) % m
+next_round first n m =
+    let a = first + n in
+    let e : first + (n + 1) ≡ (a % m + 1) + m * (a / m) = omega (arith, mod-add-div a m) in
+    sym (ap (λ x. x % m) e ∙ add-mul-mod_self_left (a % m + 1) m (a / m))
 
 -- n slots and m more
 pub sent_both : (s : Stream) (tau : ℤ) (n m : ℕ) → sent_from s tau (n + m) ≡ sent_from s tau n ++ sent_from s (tau +ℤ pos n) m

@@ -1,6 +1,6 @@
 //! Sends a cycle, field by field.
 
-ghost use Rattle.std.specs.Prelude.{◌≡◌, ◌*◌, ◌≤◌, ◌<◌, pos, ◌^◌, length, take, MatchResult};
+ghost use Rattle.std.specs.Prelude.{◌≡◌, ◌+◌, ◌*◌, ◌%◌, ◌≤◌, ◌<◌, pos, ◌^◌, length, take, MatchResult};
 ghost use Rattle.ttx_cycle.specs.Counters.{inner_of, faults_of};
 ghost use Rattle.ttx_cycle.specs.Counts.{HasRisen};
 ghost use Rattle.ttx_cycle.specs.Cycles.{slots_of};
@@ -16,6 +16,14 @@ use crate::timing::stamped;
 use std::io::Write;
 use ttx_cycle::{Counted, Cycle, WriteFault, write_bytes};
 
+// The place after this one, round a cycle of so many slots.
+fn next_place(place: usize, count: usize) -> usize
+    requires { place < count }
+    ensures { result ≡ (place + 1) % count }
+{
+    if place + 1 == count { 0 } else { place + 1 }
+}
+
 // The bytes of `count` slots of the repeated cycle, from slot `first` on, all with the same time.
 fn piece_bytes(slots: &[[u8; 42]], first: usize, count: usize, stamp: &Stamp) -> [u8; 5376]
     requires cycle { IsCycle slots.now }
@@ -25,9 +33,11 @@ fn piece_bytes(slots: &[[u8; 42]], first: usize, count: usize, stamp: &Stamp) ->
     ensures bytes { take (42 * count) result ≡ file_of (sent_from (at_moment slots.now stamp.now.moment) (pos first) count) }
 {
     let mut bytes = room();
+    let mut place = first % slots.len();
     for at in 0..count {
-        let slot = stamped(&slots[(first + at) % slots.len()], stamp);
+        let slot = stamped(&slots[place], stamp);
         put_slot(&mut bytes, 42 * at, &slot);
+        place = next_place(place, slots.len());
     }
     bytes
 }
