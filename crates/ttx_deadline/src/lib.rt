@@ -11,7 +11,7 @@ mod required_files;
 mod required_lines;
 mod requirements;
 
-pub use finding::{Asked, FoundWith, find_with};
+pub use finding::{Asked, FoundWith, find_with, with_found};
 pub use late_required_files::certify_files_late_required;
 pub use late_required_lines::late_required_line;
 pub use late_requirements::{LateRequiredVerdict, certify_late_required};

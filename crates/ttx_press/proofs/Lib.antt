@@ -1,1 +1,3 @@
 mod SaidWords
+mod ShareBounds
+mod SharedHouses

@@ -3,3 +3,5 @@ pub mod Editions
 pub mod Refusals
 pub mod Turns
 pub mod Presses
+pub mod Shares
+pub mod Openings

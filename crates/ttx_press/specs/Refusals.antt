@@ -94,15 +94,15 @@ IsNoPlanBy true v service promises words = IsNoSpread v service promises words
 abbrev pub IsNoPlan : House → ServiceFields → List PromiseFields → List ℕ → Type 0
 IsNoPlan h service promises words = IsNoPlanBy h.spread (viewers_of h) service promises words
 
--- the pages for which viewers wait longer than the deadline of the house
-pub record IsSlowness (h : House) (cycle : List (List ℕ)) (service : ServiceFields) (words : List ℕ) : Type 0 where
+-- the pages for which viewers wait longer than so many fields
+pub record IsSlowness (repeat limit : ℕ) (cycle : List (List ℕ)) (service : ServiceFields) (words : List ℕ) : Type 0 where
   pub told : List PageWait
-  pub waits : AreWaits cycle (pages_of service) Any h.repeat service.lines told
-  pub words_are : words ≡ late_words (slow_pages h.deadline told)
+  pub waits : AreWaits cycle (pages_of service) Any repeat service.lines told
+  pub words_are : words ≡ late_words (slow_pages limit told)
 
 -- the certificate that is found is not accepted with that deadline
 pub record IsTooSlow (h : House) (cycle : List (List ℕ)) (service : ServiceFields) (words : List ℕ) : Type 0 where
   pub w : CertificateFields
   pub reason : Reason
   pub found : IsFoundWith cycle (pages_of service) service.lines (asked_of h) w (No reason)
-  pub slow : IsSlowness h cycle service words
+  pub slow : IsSlowness h.repeat h.deadline cycle service words

@@ -1,6 +1,6 @@
 //! The certificate of a planned service.
 
-ghost use Rattle.std.specs.Prelude.{◌≡◌, IfOk, IfErr, map};
+ghost use Rattle.std.specs.Prelude.{◌≡◌, ◌≤◌, IfOk, IfErr, map};
 ghost use Rattle.ttx_certificate.specs.Certificates.{fields_of};
 ghost use Rattle.ttx_certify.specs.declared.verdict.Verdict.TheVariants.{Yes};
 ghost use Rattle.ttx_cycle.specs.Cycles.{slots_of};
@@ -23,12 +23,10 @@ use ttx_page::Class;
 use ttx_witness::{Certificate, NoMemory, PageWait, waits};
 
 // How long viewers wait for each page.
-fn waits_of(
-    alloc: Global,
-    house: House,
-    planned: &PlannedService,
-) -> Result<Vec<PageWait>, NoMemory>
-    ensures { IfOk result (λ told. AreWaits (slots_of planned.now.cycle) (pages_of planned.now.service) Any house.repeat
+fn waits_of(alloc: Global, repeat: u8, planned: &PlannedService) -> Result<Vec<PageWait>, NoMemory>
+    requires some { 1 ≤ repeat }
+    requires few { repeat ≤ 8 }
+    ensures { IfOk result (λ told. AreWaits (slots_of planned.now.cycle) (pages_of planned.now.service) Any repeat
         planned.now.service.lines told.items) }
 {
     let service = &planned.service;
@@ -37,19 +35,26 @@ fn waits_of(
         &planned.cycle,
         service.pages(),
         Class::Any,
-        house.repeat,
+        repeat,
         service.lines(),
     )
 }
 
-// The refusal of pages for which viewers wait longer than the deadline.
-fn refused_slow(alloc: Global, house: House, planned: &PlannedService) -> PressFault
-    ensures { Says (IsSlowness house (slots_of planned.now.cycle) planned.now.service) result }
+/// The refusal of pages for which viewers wait longer than so many fields.
+pub(crate) fn refused_slow(
+    alloc: Global,
+    repeat: u8,
+    limit: u32,
+    planned: &PlannedService,
+) -> PressFault
+    requires some { 1 ≤ repeat }
+    requires few { repeat ≤ 8 }
+    ensures { Says (IsSlowness repeat limit (slots_of planned.now.cycle) planned.now.service) result }
 {
-    let Ok(told) = waits_of(alloc, house, planned) else {
+    let Ok(told) = waits_of(alloc, repeat, planned) else {
         return PressFault::NoMemory;
     };
-    match slow_pages(alloc, &told, house.deadline) {
+    match slow_pages(alloc, &told, limit) {
         Ok(slow) => refused_late(alloc, &slow),
         Err(_) => PressFault::NoMemory,
     }
@@ -70,6 +75,6 @@ pub fn certified(
     };
     match found.verdict {
         Verdict::Yes => Ok(found.certificate),
-        Verdict::No(_) => Err(refused_slow(alloc, house, planned)),
+        Verdict::No(_) => Err(refused_slow(alloc, house.repeat, house.deadline, planned)),
     }
 }

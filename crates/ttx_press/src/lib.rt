@@ -2,20 +2,23 @@
 #![tactic(auto)]
 
 mod certifying;
-mod first_edition;
+mod demand;
 mod house;
 mod late_words;
+mod opening;
 mod planning;
 mod press;
 mod printing;
 mod reading;
 mod refusals;
 mod service_file;
+mod sharing;
 mod slow_pages;
 mod terms;
 mod turns;
 
-pub use first_edition::first;
+pub use demand::Demand;
 pub use house::House;
+pub use opening::{Opening, opened};
 pub use printing::printed;
 pub use service_file::ServiceFile;

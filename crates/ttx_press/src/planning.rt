@@ -2,8 +2,11 @@
 
 ghost use Rattle.std.specs.Prelude.{◌≡◌, ◌≤◌, IfOk, IfErr, map, true};
 ghost use Rattle.ttx_cycle.specs.Cycles.{slots_of};
+ghost use Rattle.ttx_plan.specs.Following.{AreFollowed};
 ghost use Rattle.ttx_promise.specs.Views.{late_view};
+ghost use Rattle.ttx_source.specs.Services.{pages_of};
 ghost use Rattle.ttx_source.specs.PromiseViews.{promise_view};
+ghost use Rattle.ttx_press.specs.Houses.{viewers_of};
 ghost use Rattle.ttx_press.specs.Refusals.{Says, late_words, IsNoPlain, IsNoSpread, IsNoPlan};
 ghost use Rattle.ttx_press.specs.Editions.{IsPlain, IsPlanBy, IsPlanFor};
 
@@ -43,6 +46,7 @@ fn plain_plan(
     service: Service,
 ) -> Result<PlannedService, PressFault>
     ensures plan { IfOk result (λ planned. IsPlain viewers service planned.service (slots_of planned.cycle)) }
+    ensures followed { IfOk result (λ planned. viewers.receivers.late ≡ true → AreFollowed (slots_of planned.cycle) (pages_of planned.service)) }
     ensures refused { IfErr result (Says (IsNoPlain viewers service)) }
 {
     match plan_with(alloc, &service, viewers.receivers) {
@@ -64,6 +68,7 @@ fn spread_plan(
     requires few { viewers.repeat ≤ 8 }
     ensures plan { IfOk result (λ planned.
         IsPlanBy true viewers service (map promise_view promises.now) planned.service (slots_of planned.cycle)) }
+    ensures followed { IfOk result (λ planned. viewers.receivers.late ≡ true → AreFollowed (slots_of planned.cycle) (pages_of planned.service)) }
     ensures refused { IfErr result (Says (IsNoSpread viewers service (map promise_view promises.now))) }
 {
     let mut service = service;
@@ -80,6 +85,8 @@ fn spread_plan(
 pub fn planned(alloc: Global, house: House, script: Script) -> Result<PlannedService, PressFault>
     ensures plan { IfOk result (λ planned.
         IsPlanFor house script.service (map promise_view script.promises.items) planned.service (slots_of planned.cycle)) }
+    ensures followed { IfOk result (λ planned. (viewers_of house).receivers.late ≡ true →
+        AreFollowed (slots_of planned.cycle) (pages_of planned.service)) }
     ensures refused { IfErr result (Says (IsNoPlan house script.service (map promise_view script.promises.items))) }
 {
     let viewers = viewers_of(house);

@@ -15,5 +15,5 @@ returns-in-No-clause-refused c =
     let w = fields_of c.in-Ok.found.certificate in
     let asked = subst (λ a. IsFoundWith cycle (pages_of service) service.lines a w c.in-Ok.found.verdict) c.asked_of.ensures c.in-Ok.ensures in
     let found = subst (λ v. IsFoundWith cycle (pages_of service) service.lines (asked_of c.args.house) w v) c.in-No.is asked in
-    says_as (IsSlowness c.args.house cycle service) (IsTooSlow c.args.house cycle service) c.refused_slow.result
+    says_as (IsSlowness c.args.house.repeat c.args.house.deadline cycle service) (IsTooSlow c.args.house cycle service) c.refused_slow.result
     (λ words slow. record { w = w; reason = c.in-No.field-0; found = found; slow = slow }) c.refused_slow.ensures
