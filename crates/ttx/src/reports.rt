@@ -45,3 +45,9 @@ pub fn status_of(rt: &HostRuntime, outcome: Result<u8, ToolFault>) -> u8 {
         Err(fault) => report(rt, &fault),
     }
 }
+
+/// Says that a command or an option has no body yet, and answers the status.
+pub fn not_built(rt: &HostRuntime) -> u8 {
+    let _ = rt.eprintln("refused: not built yet");
+    1
+}

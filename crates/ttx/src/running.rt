@@ -11,7 +11,7 @@ mod services;
 mod splices;
 mod zones;
 
-use crate::reports::status_of;
+use crate::reports::{not_built, status_of};
 use std::io;
 use ttx_arguments::Order;
 use ttx_cycle::Counted;
@@ -47,14 +47,26 @@ pub fn run_order(rt: &HostRuntime, order: &Order<'_>) -> Outcome {
             selection,
             look,
         } => screens::preview(rt, service, selection, look),
+        Order::PreviewAll { .. } => Ok(not_built(rt)),
         Order::Splice(order) => splices::splice(rt, order),
         Order::Wait(order) => certificates::wait(rt, order),
         Order::Send(order) => sends::send(rt, order),
+        Order::Air(_) | Order::AirReplay(_) | Order::Report(_) => Ok(not_built(rt)),
+        Order::Compose { .. } | Order::Decompose { .. } | Order::Explain { .. } => {
+            Ok(not_built(rt))
+        }
         Order::Monitor(order) => feeds::monitor(rt, order),
-        Order::Pages { cycle } => cycles::pages(rt, cycle),
+        Order::Pages { json: true, .. } => Ok(not_built(rt)),
+        Order::Pages { cycle, .. } => cycles::pages(rt, cycle),
         Order::Book { cycle, out } => cycles::book(rt, cycle, out),
-        Order::Extract { cycle, out, lines } => cycles::extract(rt, cycle, out, lines.count()),
-        Order::Check { service } => services::check(rt, service),
+        Order::Extract { partial: true, .. } => Ok(not_built(rt)),
+        Order::Extract {
+            cycle,
+            out,
+            lines,
+            ..
+        } => cycles::extract(rt, cycle, out, lines.count()),
+        Order::Check(order) => services::check(rt, order),
         Order::Version => Ok(status_of(rt, version(rt))),
     }
 }

@@ -6,4 +6,6 @@ pub mod Moments
 pub mod Timings
 pub mod Seconds
 pub mod Arguments
+pub mod Values
+pub mod Conditions
 pub mod Examples

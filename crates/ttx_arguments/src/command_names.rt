@@ -27,10 +27,15 @@ pub enum CommandName {
     Extract,
     Check,
     Version,
+    Air,
+    Compose,
+    Decompose,
+    Report,
+    Explain,
 }
 
 /// The commands, as help lists them.
-pub static COMMANDS: [CommandName; 18] = [
+pub static COMMANDS: [CommandName; 23] = [
     CommandName::Inspect,
     CommandName::Plan,
     CommandName::Find,
@@ -49,6 +54,11 @@ pub static COMMANDS: [CommandName; 18] = [
     CommandName::Extract,
     CommandName::Check,
     CommandName::Version,
+    CommandName::Air,
+    CommandName::Compose,
+    CommandName::Decompose,
+    CommandName::Report,
+    CommandName::Explain,
 ];
 
 impl CommandName {
@@ -75,6 +85,11 @@ impl CommandName {
             CommandName::Extract => "extract",
             CommandName::Check => "check",
             CommandName::Version => "version",
+            CommandName::Air => "air",
+            CommandName::Compose => "compose",
+            CommandName::Decompose => "decompose",
+            CommandName::Report => "report",
+            CommandName::Explain => "explain",
         }
     }
 
@@ -108,6 +123,11 @@ impl CommandName {
                 "Reports what is wrong, or probably wrong, in the text of a service",
             CommandName::Version =>
                 "Writes the version, and the proof kit and logic that proved it",
+            CommandName::Air => "Keeps a service on air, with its changes, to standard output",
+            CommandName::Compose => "Makes a service definition of an author's text",
+            CommandName::Decompose => "Makes an author's text of a service definition",
+            CommandName::Report => "Writes a verdict, and the wait for each page, to OUT, as HTML",
+            CommandName::Explain => "Explains a reason of a verdict, by its number or its name",
         }
     }
 
@@ -132,6 +152,11 @@ impl CommandName {
             CommandName::Extract => help::EXTRACT_MORE,
             CommandName::Check => help::CHECK_MORE,
             CommandName::Version => help::VERSION_MORE,
+            CommandName::Air => help::AIR_MORE,
+            CommandName::Compose => help::COMPOSE_MORE,
+            CommandName::Decompose => help::DECOMPOSE_MORE,
+            CommandName::Report => help::REPORT_MORE,
+            CommandName::Explain => help::EXPLAIN_MORE,
         }
     }
 
@@ -153,35 +178,49 @@ impl CommandName {
                 Argument::Class, Argument::Deadline, Argument::Within,
             ],
             CommandName::Certify => &[
-                Argument::Cycle, Argument::Service, Argument::Certificate,
-                Argument::Late, Argument::Numbers, Argument::Twice, Argument::Within,
+                Argument::Cycle, Argument::Service, Argument::Certificate, Argument::Late,
+                Argument::Numbers, Argument::Twice, Argument::Within, Argument::CertifyAll,
+                Argument::Json,
             ],
-            CommandName::Refute => &[Argument::Cycle, Argument::Service, Argument::Certificate, Argument::Save],
-            CommandName::Replay => &[Argument::Cycle, Argument::Service, Argument::Counter],
+            CommandName::Refute => &[Argument::Cycle, Argument::Service, Argument::Certificate, Argument::Save, Argument::Json],
+            CommandName::Replay => &[Argument::Cycle, Argument::Service, Argument::Counter, Argument::ReplayForm],
             CommandName::Receive => &[Argument::Cycle, Argument::Page, Argument::Lines, Argument::Start, Argument::Slots, Argument::Kind],
             CommandName::Show => &[
                 Argument::Cycle, Argument::Page, Argument::Lines, Argument::Start,
                 Argument::Slots, Argument::Kind, Argument::Form, Argument::Reveal,
             ],
-            CommandName::Preview => &[Argument::Service, Argument::Page, Argument::Form, Argument::Reveal],
+            CommandName::Preview => &[Argument::Service, Argument::SomePage, Argument::PreviewAll, Argument::Form, Argument::Reveal],
             CommandName::Splice => &[
                 Argument::Old, Argument::New, Argument::OldService,
                 Argument::NewService, Argument::OldCertificate, Argument::NewCertificate, Argument::Sent, Argument::SplicedLate,
             ],
-            CommandName::Wait => &[Argument::Cycle, Argument::Service, Argument::Repeat, Argument::Class, Argument::Items, Argument::WaitNumbers],
+            CommandName::Wait => &[
+                Argument::Cycle, Argument::Service, Argument::Repeat, Argument::Class, Argument::Items,
+                Argument::WaitNumbers, Argument::Json,
+            ],
             CommandName::Send => &[
                 Argument::Cycle, Argument::At, Argument::Fields, Argument::NeededLines,
                 Argument::Phase, Argument::Offset, Argument::Zone, Argument::Force,
             ],
             CommandName::Monitor => &[
-                Argument::Cycle, Argument::Service, Argument::Certificate,
-                Argument::Feed, Argument::FeedStart,
+                Argument::Cycle, Argument::Service, Argument::Certificate, Argument::Feed,
+                Argument::FeedStart, Argument::MonitorAll, Argument::Every, Argument::Rows,
+                Argument::Json,
             ],
-            CommandName::Pages => &[Argument::Cycle],
+            CommandName::Pages => &[Argument::Cycle, Argument::Json],
             CommandName::Book => &[Argument::Cycle, Argument::Book],
-            CommandName::Extract => &[Argument::Cycle, Argument::Extracted, Argument::NeededLines],
-            CommandName::Check => &[Argument::Service],
+            CommandName::Extract => &[Argument::Cycle, Argument::Extracted, Argument::NeededLines, Argument::Partial],
+            CommandName::Check => &[Argument::Service, Argument::Long, Argument::Strict, Argument::Json],
             CommandName::Version => &[],
+            CommandName::Air => &[
+                Argument::Watched, Argument::Within, Argument::Repeat, Argument::AirAt, Argument::Zone,
+                Argument::Offset, Argument::AirFields, Argument::AirLate, Argument::AtOnce,
+                Argument::Spread, Argument::AirLog, Argument::ReplayLog, Argument::Force,
+            ],
+            CommandName::Compose => &[Argument::Author, Argument::Composed],
+            CommandName::Decompose => &[Argument::Service, Argument::Decomposed],
+            CommandName::Report => &[Argument::Cycle, Argument::Service, Argument::Certificate, Argument::Reported, Argument::Date],
+            CommandName::Explain => &[Argument::Reason],
         }
     }
 }

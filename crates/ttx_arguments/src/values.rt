@@ -5,12 +5,13 @@ ghost use Rattle.clap.specs.Words.{rows_of, found_of};
 ghost use Rattle.ttx_arguments.specs.Arguments.{takes_of};
 ghost use Rattle.ttx_arguments.specs.Numbers.{numeral};
 ghost use Rattle.ttx_arguments.specs.Orders as rule;
-ghost use Rattle.ttx_arguments.specs.Orders.{look_view, given_at, text_at, kind_named, class_named, form_named, is_set, tuning_asked, look_at, sending_at};
+ghost use Rattle.ttx_arguments.specs.Orders.{look_view, kind_named, class_named, form_named, replay_form_named, tuning_asked, look_at, sending_at};
 ghost use Rattle.ttx_arguments.specs.Orders.{IsInside, number_given, number_at, lines_at, repeat_at};
+ghost use Rattle.ttx_arguments.specs.Values.{given_at, text_at, is_set};
 ghost use Rattle.ttx_arguments.specs.declared.arguments.Argument.TheVariants as argument;
 
 use crate::arguments::{Argument, Takes};
-use crate::orders::{Look, ReceiverKind, Sending, Tuning};
+use crate::orders::{Look, ReceiverKind, ReplayForm, Sending, Tuning};
 use crate::ranges::{Fields, Lines, Repeat};
 use clap::ArgMatches;
 use ttx_page::{Class, Selection};
@@ -97,6 +98,16 @@ pub(crate) fn deadline_of(values: &ArgMatches<'_>) -> Option<Fields>
     }
 }
 
+// The fields that `--every` was given.
+pub(crate) fn every_of(values: &ArgMatches<'_>) -> Option<Fields>
+    ensures { result ≡ number_given argument.Every (rows_of (found_of values.now)) }
+{
+    match given_number(values, Argument::Every) {
+        Some(count) => Some(Fields::new(count)),
+        None => None,
+    }
+}
+
 fn kind_of(values: &ArgMatches<'_>) -> ReceiverKind
     ensures { result ≡ kind_named (text_at argument.Kind (rows_of (found_of values.now))) }
 {
@@ -120,7 +131,7 @@ pub(crate) fn class_of(values: &ArgMatches<'_>) -> Class
     }
 }
 
-fn form_of(values: &ArgMatches<'_>) -> Form
+pub(crate) fn form_of(values: &ArgMatches<'_>) -> Form
     ensures { result ≡ form_named (text_at argument.Form (rows_of (found_of values.now))) }
 {
     let name = text_of(values, Argument::Form);
@@ -132,6 +143,19 @@ fn form_of(values: &ArgMatches<'_>) -> Form
         Form::Html
     } else {
         Form::Ansi
+    }
+}
+
+pub(crate) fn replay_form_of(values: &ArgMatches<'_>) -> ReplayForm
+    ensures { result ≡ replay_form_named (text_at argument.ReplayForm (rows_of (found_of values.now))) }
+{
+    let name = text_of(values, Argument::ReplayForm);
+    if name == "text" {
+        ReplayForm::Text
+    } else if name == "html" {
+        ReplayForm::Html
+    } else {
+        ReplayForm::Words
     }
 }
 

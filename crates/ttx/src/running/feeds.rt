@@ -3,7 +3,7 @@
 use super::Outcome;
 use super::inputs::{Claim, buffered};
 use crate::devices::{Input, open_input};
-use crate::reports::status_of;
+use crate::reports::{not_built, status_of};
 use std::io;
 use ttx_arguments::MonitorOrder;
 use ttx_cycle::Counted;
@@ -31,6 +31,9 @@ fn monitor_feed(
 
 /// Opens the cycle, the service, the certificate and the feed, and judges the feed.
 pub fn monitor(rt: &HostRuntime, order: &MonitorOrder<'_>) -> Outcome {
+    if order.all || order.every.is_some() || order.rows || order.json {
+        return Ok(not_built(rt));
+    }
     let claim = Claim::open(rt, order.cycle, order.service, order.certificate)?;
     let feed = open_input(rt, order.feed)?;
     Ok(status_of(rt, monitor_feed(rt, claim, feed, order.start)))
