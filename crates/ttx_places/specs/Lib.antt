@@ -1,4 +1,5 @@
 pub mod Paths
 pub mod Places
 pub mod Positions
+pub mod Signs
 pub mod Tables

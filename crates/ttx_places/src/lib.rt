@@ -8,7 +8,9 @@
 mod documents;
 mod keys;
 mod positions;
+mod signs;
 mod values;
 
 pub use documents::place_of;
-pub use positions::{Position, position_of};
+pub use positions::{Position, last_line, position_of};
+pub use signs::character_place;

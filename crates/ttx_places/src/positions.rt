@@ -1,7 +1,7 @@
 //! Lines and columns of bytes in a text, for people.
 
 ghost use Rattle.std.specs.Prelude.{◌≡◌, ◌+◌, ◌<◌, ◌^◌, if◌then◌else◌, take};
-ghost use Rattle.ttx_places.specs.Positions.{is_line_feed, begins_character, line_after, column_after};
+ghost use Rattle.ttx_places.specs.Positions.{is_line_feed, begins_character, last_line, line_after, column_after};
 
 /// A line and a column, both from 1. A column counts characters.
 #[derive(Clone, Copy)]
@@ -51,4 +51,23 @@ pub fn position_of(text: &[u8], place: usize) -> Position
     ensures column { result.column ≡ column_after (take place text.now) }
 {
     position_after(&text[..place.min(text.len())])
+}
+
+// Where the line begins after a byte, given where the line of the byte begins.
+fn start_after(start: usize, index: usize, byte: u8) -> usize
+    requires { index < 2 ^ 63 }
+    ensures { result ≡ (if is_line_feed byte then index + 1 else start) }
+{
+    if byte == b'\n' { index + 1 } else { start }
+}
+
+/// The bytes after the last line feed.
+pub fn last_line(text: &[u8]) -> &[u8]
+    ensures { result.now ≡ last_line text.now }
+{
+    let mut start = 0;
+    for (index, byte) in text.iter().enumerate() {
+        start = start_after(start, index, *byte);
+    }
+    &text[start..]
 }
