@@ -5,6 +5,7 @@ text with one mistake, the line must name the place where the mistake was writte
 usage: checked.py PROGRAM [COUNT]
 """
 import random
+import re
 import subprocess
 import sys
 from collections import Counter
@@ -15,7 +16,9 @@ TAKES = {
     "page": "number sub often option newsflash subtitle suppress update interrupted inhibit head rows links row24 crc".split(),
 }
 FIRST = {"number": "100", "sub": "0000", "often": 1, "newsflash": False, "subtitle": False, "inhibit": False, "head": "", "rows": {}, "links": [], "row24": False}
-CODES = "AB \t\n\b\v\v\r"
+CODES = "AB \t\n\n\b\v\v\r#[_\x11\x02"
+# What options 0 and 1 show in place of ASCII.
+SHOWN = {0: dict(zip("#[\\]^_`{|}~", "£←½→↑#\u2015¼\u2016¾÷")), 1: dict(zip("@[\\]`{|}~", "§ÄÖÜ°äöüß"))}
 
 
 def value_text(value):
@@ -103,6 +106,8 @@ def random_page(number, sub):
     for key in ("newsflash", "subtitle", "inhibit", "row24"):
         if random.random() < 0.2:
             page[key] = random.random() < 0.7
+    if random.random() < 0.3:
+        page["option"] = random.randrange(2)
     if random.random() < 0.6:
         rows = sorted(random.sample(range(1, 25), random.randrange(1, 6)))
         page["rows"] = {str(row): "".join(random.choices(CODES, k=random.randrange(12))) for row in rows}
@@ -110,7 +115,7 @@ def random_page(number, sub):
         links = ["", "100", "101/0001", "200", "7AB/0001", "100/3F7F"]
         page["links"] = random.choices(links, k=random.randrange(7))
     if random.random() < 0.2:
-        page["head"] = "".join(random.choices("A\v", k=6))
+        page["head"] = "".join(random.choices("A\v[", k=6))
     items = list(page.items())
     random.shuffle(items)
     return dict(items)
@@ -134,10 +139,20 @@ def distance(a, b):
     return best[len(a), len(b)]
 
 
+def home(key):
+    """Where a key stands that another table has."""
+    for kind, place in (("page", "in [[page]], above [page.rows]"), ("service", "above [info] and [[page]]")):
+        if key in TAKES[kind]:
+            return f": it stands {place}"
+    if key in map(str, range(1, 25)):
+        return ": it stands in [page.rows]"
+    return ": it stands in [info]" if key in TAKES["info"] else ""
+
+
 def key_lines(place, kind, table):
     for key in sorted(set(table) - set(TAKES[kind])):
         near = [name for most in (1, 2)[:1 + (len(key) >= 5)] for name in TAKES[kind] if len(key) <= 16 and distance(key, name) <= most]
-        yield f"warning {place}: no key {key}" + (f": is it {near[0]}?" if near else "") + "\n"
+        yield f"warning {place}: no key {key}" + (home(key) or (f": is it {near[0]}?" if near else "")) + "\n"
 
 
 def identity(page):
@@ -181,6 +196,22 @@ def behind(pages, serial):
     return subpages, copies
 
 
+def sign_lines(place, page, text):
+    """Lines about characters that are shown otherwise, escapes in single quotation marks, and boxes without an end."""
+    option, mosaic = page.get("option", 0), False
+    for c in text:
+        if c in SHOWN[option] and (not mosaic or "@" <= c < "`"):
+            yield f"warning {place}: {c} is shown as {SHOWN[option][c]} under option {option}\n"
+            break
+        mosaic = ord(c) >= 8 and ("\x10" <= c < "\x18" or mosaic)
+    if re.search(r"\\u[0-9A-Fa-f]{4}", text):
+        yield f"warning {place}: \\u is an escape only in double quotation marks\n"
+    starts = [at for at in range(len(text) - 1) if text[at:at + 2] == "\v\v"]
+    ends = [at for at in range(len(text) - 1) if text[at:at + 2] == "\n\n"]
+    if starts and starts[-1] > max(ends, default=-1):
+        yield f"warning {place}: the box has no end: code 0A twice ends it\n"
+
+
 def row_lines(place, page):
     rows, hidden = filled(page)
     for number, row in rows.items():
@@ -192,6 +223,7 @@ def row_lines(place, page):
             yield f"warning {place} row {number}: code 09 does nothing before a flash: is it a tab?\n"
         if "\n" in row.split("\v")[0]:
             yield f"warning {place} row {number}: code 0A does nothing before a box: is it a line break?\n"
+        yield from sign_lines(f"{place} row {number}", page, row)
 
 
 def page_lines(page, pages, subpages, copies):
@@ -200,7 +232,13 @@ def page_lines(page, pages, subpages, copies):
     for number, link in enumerate(page.get("links", [])):
         if link and not is_there(link, pages):
             yield f"warning {place} link {number + 1}: the service has no such page\n"
+    yield from sign_lines(f"{place} head", page, page.get("head", ""))
     yield from row_lines(place, page)
+    if page.get("row24") and not page.get("rows", {}).get("24", "").strip(" "):
+        yield f"warning {place} row24: row 24 is blank\n"
+    for key, digits in (("number", page["number"]), ("sub", page.get("sub", "0000"))):
+        if re.search("[A-F]", digits):
+            yield f"warning {place} {key}: no remote control dials the digits A to F\n"
     boxed = any("\v\v" in text for text in [page.get("head", ""), *page.get("rows", {}).values()])
     if (page.get("newsflash") or page.get("subtitle")) and not boxed:
         yield f"warning {place}: a newsflash or subtitle without a box shows nothing\n"

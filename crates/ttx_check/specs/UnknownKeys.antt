@@ -2,7 +2,8 @@
 --
 --   service_keys, info_keys, page_keys      the known keys, in the order of docs/SERVICE.md
 --   edits, far_name, meant    how far a key is from a name; the name that was probably meant
---   visible_code, key_line    a key as it is printed; its line
+--   home_of, hint           where a key stands that another table has; that, or the name that was probably meant
+--   visible_code, key_words, key_line    a key as it is printed; the words about it; its line
 --   unknown_lines           the lines about a table
 --   key_lines               the lines about a text with these pages
 use Rattle.std.specs.Prelude.{ℕ, Bool, ◌&&◌, nat_le, nat_lt, nat_eq, if◌then◌else◌, List, [], ◌∷◌, ◌++◌, codes, length, map, find, Option, Some, None}
@@ -11,6 +12,7 @@ use Rattle.std.specs.Str.{bytes_eq, chars}
 use Rattle.strsim.specs.Edits.{levenshtein_row}
 use Rattle.toml.specs.Data.{Data, Items, no_items, item, Members, no_members, member, get_member, as_array, as_table}
 use Rattle.ttx_page.specs.Pages.{Page}
+use Rattle.ttx_source.specs.Keys.{is_row_key}
 use Rattle.ttx_check.specs.WarningLines.{page_text}
 
 unfoldable pub service_keys : List (List ℕ)
@@ -55,9 +57,29 @@ abbrev pub meant_text : Option (List ℕ) → List ℕ
 meant_text None = []
 meant_text (Some name) = codes ": is it " ++ name ++ codes "?"
 
--- the line about a key that is not one of these names
+-- where a key stands that another table has
+unfoldable pub home_of : List ℕ → List ℕ
+home_of key =
+    if is_one_of page_keys key then codes ": it stands in [[page]], above [page.rows]"
+    else if is_one_of service_keys key then codes ": it stands above [info] and [[page]]"
+    else if is_row_key key then codes ": it stands in [page.rows]"
+    else if is_one_of info_keys key then codes ": it stands in [info]"
+    else []
+
+abbrev pub text_or_else : List ℕ → List ℕ → List ℕ
+text_or_else [] other = other
+text_or_else (c ∷ text) other = c ∷ text
+
+-- where the key stands, otherwise the name that was probably meant
+abbrev pub hint : List (List ℕ) → List ℕ → List ℕ
+hint names key = text_or_else (home_of key) (meant_text (meant names key))
+
+-- the words about a key that is not one of these names
+unfoldable pub key_words : List (List ℕ) → List ℕ → List ℕ
+key_words names key = codes ": no key " ++ map visible_code key ++ hint names key
+
 unfoldable pub key_line : List ℕ → List (List ℕ) → List ℕ → List ℕ
-key_line place names key = codes "warning " ++ place ++ codes ": no key " ++ map visible_code key ++ meant_text (meant names key) ++ 10 ∷ []
+key_line place names key = codes "warning " ++ place ++ key_words names key ++ 10 ∷ []
 
 unfoldable pub key_text : List ℕ → List (List ℕ) → List ℕ → List ℕ
 key_text place names key = if is_one_of names key then [] else key_line place names key

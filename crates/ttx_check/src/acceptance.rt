@@ -162,7 +162,8 @@ fn is_row_refused(rows: &Table, key: &str) -> bool
     }
 }
 
-fn row_names() -> &'static [&'static str]
+/// The keys of rows 1 to 24.
+pub fn row_names() -> &'static [&'static str]
     ensures { map (λ n. n.now) result.now ≡ row_keys }
 {
     &ROWS
@@ -188,8 +189,8 @@ pub fn refused_row(rows: &Table) -> Option<&'static str>
     first_refused(rows, row_names())
 }
 
-// Whether a key is the number of a row.
-fn is_row_key(key: &str) -> bool
+/// Whether a key is the number of a row.
+pub fn is_row_key(key: &str) -> bool
     ensures { result ≡ is_row_key key.now }
 {
     is_one_of(row_names(), key)

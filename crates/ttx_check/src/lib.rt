@@ -1,26 +1,29 @@
 //! Checks service texts for their authors: where a text is refused, and what in a service is probably a mistake.
 #![tactic(auto)]
 
-mod acceptance;
+pub mod acceptance;
 mod checking;
 mod entries;
 mod links;
 mod page_warnings;
 pub mod parts;
 mod queues;
-mod refusals;
+pub mod readings;
+pub mod refusals;
 mod reports;
+mod row_signs;
 mod rows;
 mod service_warnings;
 pub mod spots;
 mod tallies;
 mod texts;
 mod traffic;
-mod unknown_keys;
+pub mod unknown_keys;
 pub mod warning;
-mod warning_lines;
+pub mod warning_lines;
 
 pub use checking::check;
+pub use readings::{Reading, reading_of};
 pub use reports::{Checked, report};
 pub use service_warnings::warnings;
 pub use warning::Warning;

@@ -4,16 +4,18 @@ ghost use Rattle.std.specs.Prelude.{◌≡◌, ◌++◌, ◌||◌, OnOk, map};
 ghost use Rattle.std.specs.List.{list_any};
 ghost use Rattle.ttx_page.specs.Views.{page_of};
 ghost use Rattle.ttx_check.specs.Counting.{times_in};
-ghost use Rattle.ttx_check.specs.PageWarnings.{has_box, lacks_box, order_warnings, page_warnings, pages_from};
+ghost use Rattle.ttx_check.specs.PageWarnings.{has_box, lacks_box, is_asked_for, has_letter_number, has_letter_subcode, key_warnings, own_warnings};
+ghost use Rattle.ttx_check.specs.PageWarnings.{order_warnings, page_warnings, pages_from};
 
 use crate::entries::Entry;
 use crate::links::push_links;
-use crate::rows::{push_if, push_rows};
+use crate::rows::{push_if, push_rows, push_signs};
 use crate::tallies::count_of;
 use crate::warning::Warning;
 use std::alloc::AllocError;
 use std::collections::BTreeMap;
-use ttx_page::Page;
+use ttx_header::PageId;
+use ttx_page::{Item, Page, RowNumber, is_blank};
 
 // Two of these codes in succession start a box.
 const START_BOX: u8 = 0x0b;
@@ -56,6 +58,57 @@ fn lacks_box(page: &Page) -> bool
         && !(has_box(page.head()) || have_box(page.rows()))
 }
 
+// Whether row 24 is asked for, and blank.
+fn is_asked_for(page: &Page) -> bool
+    ensures { result ≡ is_asked_for (page_of page.now) }
+{
+    page.links().show24() && is_blank(page, Item::Row(RowNumber::new(24).unwrap()))
+}
+
+// Whether a page number has a digit from A to F.
+fn has_letter_number(page: PageId) -> bool
+    ensures { result ≡ has_letter_number page }
+{
+    page.page() / 16 > 9 || page.page() % 16 > 9
+}
+
+// Whether a subcode has a digit from A to F.
+fn has_letter_subcode(page: PageId) -> bool
+    ensures { result ≡ has_letter_subcode page }
+{
+    let sub = page.sub();
+    (sub / 4096 > 9 || sub / 256 % 16 > 9) || (sub / 16 % 16 > 9 || sub % 16 > 9)
+}
+
+// Adds the warnings about `row24`, `number` and `sub`.
+#[tactic(auto, unfolding(crate::specs::PageWarnings::key_warnings))]
+fn push_keyed(found: &mut Vec<Warning>, page: &Page) -> Result<(), AllocError>
+    ensures { OnOk result (found.new.items ≡ found.old.items ++ key_warnings (page_of page.now)) }
+{
+    let id = page.id();
+    push_if(found, is_asked_for(page), Warning::EmptyRow { page: id })?;
+    push_if(
+        found,
+        has_letter_number(id),
+        Warning::LetterNumber { page: id },
+    )?;
+    push_if(
+        found,
+        has_letter_subcode(id),
+        Warning::LetterSubcode { page: id },
+    )
+}
+
+// Adds the warnings about the rows and keys of a page.
+fn push_own(found: &mut Vec<Warning>, page: &Page) -> Result<(), AllocError>
+    ensures { OnOk result (found.new.items ≡ found.old.items ++ own_warnings (page_of page.now)) }
+{
+    push_signs(found, page, 0, page.head())?;
+    push_rows(found, page)?;
+    push_keyed(found, page)?;
+    push_if(found, lacks_box(page), Warning::NoBox { page: page.id() })
+}
+
 // Adds the warnings about the order in which the page at this place is sent.
 fn push_order(
     found: &mut Vec<Warning>,
@@ -85,8 +138,7 @@ fn push_page(
         ≡ found.old.items ++ page_warnings entries.now (times_in order.now.subpages) (times_in order.now.copies) place (page_of page.now)) }
 {
     push_links(found, entries, page.id(), page.links().six())?;
-    push_rows(found, page)?;
-    push_if(found, lacks_box(page), Warning::NoBox { page: page.id() })?;
+    push_own(found, page)?;
     push_order(found, order, place, page)
 }
 

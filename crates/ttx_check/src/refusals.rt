@@ -1,19 +1,23 @@
 //! The line about a text that is refused.
 
 ghost use Rattle.std.specs.Prelude.{◌≡◌, ◌++◌, IfOk, OnOk, Some, string_bytes};
+ghost use Rattle.toml.specs.Parse.{parse_document};
+ghost use Rattle.toml.specs.View.{table_view};
 ghost use Rattle.ttx_source.specs.Faults.{fault_of};
+ghost use Rattle.ttx_source.specs.Values.{not_toml};
 ghost use Rattle.ttx_places.specs.Places.{place_of};
 ghost use Rattle.ttx_check.specs.Refusals.{fault_words, error_line, is_toml, after_space, position_text, place_text, IsTableLine, IsTomlLine, IsErrorLine};
 
 use crate::spots::{after_colon, spot_of};
 use crate::texts::push_both;
 use std::alloc::{AllocError, Global};
+use toml::Table;
 use ttx_digits::push_decimal;
 use ttx_places::{Position, place_of, position_of};
 use ttx_source::{SourceError, SourceFault};
 
-// Adds the words of a fault.
-fn push_words(text: &mut String, fault: SourceFault) -> Result<(), AllocError>
+/// Adds the words of a fault.
+pub fn push_words(text: &mut String, fault: SourceFault) -> Result<(), AllocError>
     ensures { OnOk result (string_bytes text.new ≡ string_bytes text.old ++ fault_words (fault_of fault)) }
 {
     match fault {
@@ -113,22 +117,25 @@ fn line_of(
     Ok(line)
 }
 
-// The line about a fault in a text that is TOML.
-fn table_line(alloc: Global, bytes: &[u8], error: &SourceError) -> Result<String, AllocError>
+// The line about a fault in a text that has this table.
+fn table_line(
+    alloc: Global,
+    bytes: &[u8],
+    table: &Table,
+    error: &SourceError,
+) -> Result<String, AllocError>
+    requires { parse_document bytes.now ≡ Some (table_view table.now) }
     ensures { IfOk result (λ line. IsTableLine bytes.now (fault_of error.now.fault) error.now.page (string_bytes line)) }
 {
-    let Ok(table) = toml::table_from_slice(alloc, bytes) else {
-        return Err(AllocError);
-    };
-    let spot = spot_of(alloc, &table, error)?;
+    let spot = spot_of(alloc, table, error)?;
     let place = place_in(alloc, bytes, spot.path.as_str())?;
     let place = place_text(alloc, bytes, place, spot.name.as_str())?;
     line_of(alloc, error.fault, place.as_str(), spot.detail.as_str())
 }
 
-// The line about a text that is not TOML.
-fn toml_line(alloc: Global, bytes: &[u8], fault: SourceFault) -> Result<String, AllocError>
-    ensures { IfOk result (λ line. IsTomlLine bytes.now (fault_of fault) (string_bytes line)) }
+/// The line about a text that is not TOML, or not UTF-8.
+pub fn toml_line(alloc: Global, bytes: &[u8]) -> Result<String, AllocError>
+    ensures { IfOk result (λ line. IsTomlLine bytes.now not_toml (string_bytes line)) }
 {
     let Err(error) = toml::table_from_slice(alloc, bytes) else {
         return Err(AllocError);
@@ -138,16 +145,22 @@ fn toml_line(alloc: Global, bytes: &[u8], fault: SourceFault) -> Result<String, 
     };
     let place = place_text(alloc, bytes, Some(span.start), "")?;
     let detail = after_colon(alloc, error.message())?;
-    line_of(alloc, fault, place.as_str(), detail.as_str())
+    line_of(alloc, SourceFault::NotToml, place.as_str(), detail.as_str())
 }
 
-/// The line about a fault in a text.
-pub fn error_line(alloc: Global, bytes: &[u8], error: &SourceError) -> Result<String, AllocError>
+/// The line about a fault in a text that has this table.
+pub fn error_line(
+    alloc: Global,
+    bytes: &[u8],
+    table: &Table,
+    error: &SourceError,
+) -> Result<String, AllocError>
+    requires { parse_document bytes.now ≡ Some (table_view table.now) }
     ensures { IfOk result (λ line. IsErrorLine bytes.now (fault_of error.now.fault) error.now.page (string_bytes line)) }
 {
     if is_toml(error.fault) {
-        table_line(alloc, bytes, error)
+        table_line(alloc, bytes, table, error)
     } else {
-        toml_line(alloc, bytes, error.fault)
+        toml_line(alloc, bytes)
     }
 }

@@ -1,19 +1,23 @@
 //! The report on a service text.
 
-ghost use Rattle.std.specs.Prelude.{◌≡◌, ◌++◌, IfOk, IfErr, length, string_bytes, map};
+ghost use Rattle.std.specs.Prelude.{◌≡◌, IfOk, Some, codes, true, string_bytes};
+ghost use Rattle.std.specs.Str.{is_utf8};
+ghost use Rattle.toml.specs.Parse.{parse_document};
 ghost use Rattle.toml.specs.View.{table_view};
 ghost use Rattle.ttx_check.specs.Refusals.{IsErrorLine};
 ghost use Rattle.ttx_check.specs.Reports as rule;
 ghost use Rattle.ttx_source.specs.Faults.{fault_of};
-ghost use Rattle.ttx_source.specs.Promises.{read_promises};
+ghost use Rattle.ttx_source.specs.Promises.{promises_of};
+ghost use Rattle.ttx_source.specs.Services.{service_of};
+ghost use Rattle.ttx_source.specs.Values.{not_toml};
 
-use crate::refusals::error_line;
+use crate::refusals::{error_line, toml_line};
 use crate::service_warnings::warnings;
 use crate::unknown_keys::push_keys;
 use crate::warning_lines::push_warnings;
 use std::alloc::{AllocError, Global};
 use toml::Table;
-use ttx_source::{Service, SourceError, SourceFault, read_promises, read_service};
+use ttx_source::{Service, SourceError, SourceFault, promises_of_table, service_of_table};
 
 /// The report on a text, and the status.
 #[derive(Drop)]
@@ -45,58 +49,104 @@ fn service_report(alloc: Global, table: &Table, service: &Service) -> Result<Str
     lines_or_count(alloc, service.pages().len(), lines)
 }
 
-// The report on an accepted text. The text is read a second time for its keys, so this read can fail only for want of memory.
-fn read_report(alloc: Global, bytes: &[u8], service: &Service) -> Result<Checked, AllocError>
+// The report on an accepted text.
+fn accepted(
+    alloc: Global,
+    bytes: &[u8],
+    table: &Table,
+    service: &Service,
+) -> Result<Checked, AllocError>
+    requires { parse_document bytes.now ≡ Some (table_view table.now) }
     ensures { IfOk result (λ report. rule.IsRead bytes.now service.now (string_bytes report.text) × (report.status ≡ 0)) }
 {
-    match toml::table_from_slice(alloc, bytes) {
-        Ok(table) => Ok(Checked {
-            text: service_report(alloc, &table, service)?,
-            status: 0,
-        }),
-        Err(_) => Err(AllocError),
+    Ok(Checked {
+        text: service_report(alloc, table, service)?,
+        status: 0,
+    })
+}
+
+// The report that is the line about a refused text.
+fn refused(line: String) -> Checked
+    ensures text { string_bytes result.text ≡ string_bytes line }
+    ensures status { result.status ≡ 2 }
+{
+    Checked {
+        text: line,
+        status: 2,
     }
 }
 
 // The report on a refused text.
-fn refusal(alloc: Global, bytes: &[u8], error: &SourceError) -> Result<Checked, AllocError>
+fn refusal(
+    alloc: Global,
+    bytes: &[u8],
+    table: &Table,
+    error: &SourceError,
+) -> Result<Checked, AllocError>
+    requires { parse_document bytes.now ≡ Some (table_view table.now) }
     ensures { IfOk result (λ report. IsErrorLine bytes.now (fault_of error.now.fault) error.now.page (string_bytes report.text) × (report.status ≡ 2)) }
 {
-    Ok(Checked {
-        text: error_line(alloc, bytes, error)?,
-        status: 2,
-    })
+    Ok(refused(error_line(alloc, bytes, table, error)?))
 }
 
 // The report on a text whose service is accepted, and whose promises may be refused.
-fn promised_report(alloc: Global, bytes: &[u8], service: &Service) -> Result<Checked, AllocError>
-    ensures { IfOk result (λ report.
-        rule.IsPromiseReport bytes.now service.now (read_promises bytes.now) (string_bytes report.text) report.status) }
+fn promised_report(
+    alloc: Global,
+    bytes: &[u8],
+    table: &Table,
+    service: &Service,
+) -> Result<Checked, AllocError>
+    requires { parse_document bytes.now ≡ Some (table_view table.now) }
+    ensures { IfOk result (λ report. rule.IsPromiseReport bytes.now service.now
+        (promises_of (codes "within") (table_view table.now)) (string_bytes report.text) report.status) }
 {
-    match read_promises(alloc, bytes) {
-        Ok(_) => read_report(alloc, bytes, service),
+    match promises_of_table(alloc, table) {
+        Ok(_) => accepted(alloc, bytes, table, service),
         Err(
             SourceError {
                 fault: SourceFault::NoMemory,
                 page: _,
             },
         ) => Err(AllocError),
-        Err(error) => refusal(alloc, bytes, &error),
+        Err(error) => refusal(alloc, bytes, table, &error),
     }
+}
+
+// The report on a text that is a TOML document.
+fn table_report(alloc: Global, bytes: &[u8], table: &Table) -> Result<Checked, AllocError>
+    requires utf8 { is_utf8 bytes.now ≡ true }
+    requires parsed { parse_document bytes.now ≡ Some (table_view table.now) }
+    ensures { IfOk result (λ report. rule.IsReportOf bytes.now (service_of (table_view table.now)) (string_bytes report.text) report.status) }
+{
+    match service_of_table(alloc, table) {
+        Ok(service) => promised_report(alloc, bytes, table, &service),
+        Err(
+            SourceError {
+                fault: SourceFault::NoMemory,
+                page: _,
+            },
+        ) => Err(AllocError),
+        Err(error) => refusal(alloc, bytes, table, &error),
+    }
+}
+
+// The report on a text that is not a TOML document.
+fn toml_refusal(alloc: Global, bytes: &[u8]) -> Result<Checked, AllocError>
+    ensures { IfOk result (λ report. IsErrorLine bytes.now not_toml 0 (string_bytes report.text) × (report.status ≡ 2)) }
+{
+    Ok(refused(toml_line(alloc, bytes)?))
 }
 
 /// The report on a text: one line if the service or one of its promises is refused, otherwise the warnings. `Err` if memory runs out.
 pub fn report(alloc: Global, bytes: &[u8]) -> Result<Checked, AllocError>
     ensures { IfOk result (λ report. rule.IsServiceReport bytes.now (string_bytes report.text) report.status) }
 {
-    match read_service(alloc, bytes) {
-        Ok(service) => promised_report(alloc, bytes, &service),
-        Err(
-            SourceError {
-                fault: SourceFault::NoMemory,
-                page: _,
-            },
-        ) => Err(AllocError),
-        Err(error) => refusal(alloc, bytes, &error),
+    let Ok(text) = std::str::from_utf8(bytes) else {
+        return toml_refusal(alloc, bytes);
+    };
+    match toml::table_from_str(alloc, text) {
+        Ok(table) => table_report(alloc, bytes, &table),
+        Err(error) if error.is_memory() => Err(AllocError),
+        Err(_) => toml_refusal(alloc, bytes),
     }
 }

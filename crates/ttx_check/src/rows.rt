@@ -4,10 +4,13 @@ ghost use Rattle.std.specs.Prelude.{◌≡◌, ◌≤◌, ◌++◌, suc, OnOk};
 ghost use Rattle.ttx_page.specs.declared.item.Item.TheVariants.{Row as TheRow};
 ghost use Rattle.ttx_page.specs.Pages.{has_double_height, is_hidden, is_blank, page_row};
 ghost use Rattle.ttx_page.specs.Views.{page_of};
-ghost use Rattle.ttx_check.specs.PageWarnings.{has_stray, is_stray_tab, is_stray_break, is_lost, is_unshown, only_if, row_warnings, row_warnings_to};
+ghost use Rattle.ttx_check.specs.PageWarnings.{has_stray, is_lost, is_unshown, only_if, other_warnings, sign_warnings, place_warnings, row_warnings};
+ghost use Rattle.ttx_check.specs.PageWarnings.{row_warnings_to};
 
+use crate::row_signs::{has_escape, is_open, other_code};
 use crate::warning::Warning;
 use std::alloc::AllocError;
+use ttx_header::PageId;
 use ttx_page::{Item, Page, RowNumber, is_blank};
 
 // The row with a number from 1 to 24.
@@ -65,9 +68,64 @@ pub(crate) fn push_if(
     Ok(())
 }
 
-// Adds the warnings about a row. `hidden` says whether the row above hides it.
-#[tactic(auto, unfolding(crate::specs::PageWarnings::row_warnings))]
-fn push_row(
+// Adds the warning about a code that shows another character than in ASCII.
+fn push_other(
+    found: &mut Vec<Warning>,
+    page: PageId,
+    row: u8,
+    option: u8,
+    other: Option<(usize, u8, char)>,
+) -> Result<(), AllocError>
+    ensures { OnOk result (found.new.items ≡ found.old.items ++ other_warnings page row option other) }
+{
+    let Some((column, code, shown)) = other else {
+        return Ok(());
+    };
+    found.push(Warning::OtherSign {
+        page,
+        row,
+        column,
+        code,
+        shown,
+        option,
+    })?;
+    Ok(())
+}
+
+/// Adds the warnings about the characters of the row with this number; 0 is `head`.
+#[tactic(auto, unfolding(crate::specs::PageWarnings::sign_warnings))]
+pub fn push_signs(
+    found: &mut Vec<Warning>,
+    page: &Page,
+    number: u8,
+    row: &[u8],
+) -> Result<(), AllocError>
+    ensures { OnOk result (found.new.items ≡ found.old.items ++ sign_warnings (page_of page.now) number row.now) }
+{
+    let id = page.id();
+    let option = page.control().option();
+    push_other(found, id, number, option, other_code(option, row))?;
+    push_if(
+        found,
+        has_escape(row),
+        Warning::LiteralEscape {
+            page: id,
+            row: number,
+        },
+    )?;
+    push_if(
+        found,
+        is_open(row),
+        Warning::OpenBox {
+            page: id,
+            row: number,
+        },
+    )
+}
+
+// Adds the warnings about where a row stands. `hidden` says whether the row above hides it.
+#[tactic(auto, unfolding(crate::specs::PageWarnings::place_warnings))]
+fn push_placed(
     found: &mut Vec<Warning>,
     page: &Page,
     number: u8,
@@ -76,7 +134,7 @@ fn push_row(
     requires from { 1 ≤ number }
     requires to { number ≤ 24 }
     requires hidden { hidden ≡ is_hidden (page_row (page_of page.now)) number }
-    ensures { OnOk result (found.new.items ≡ found.old.items ++ row_warnings (page_of page.now) number) }
+    ensures { OnOk result (found.new.items ≡ found.old.items ++ place_warnings (page_of page.now) number) }
 {
     let id = page.id();
     let lost = hidden && !is_blank_row(page, number);
@@ -111,6 +169,23 @@ fn push_row(
             row: number,
         },
     )
+}
+
+// Adds the warnings about a row. `hidden` says whether the row above hides it.
+#[tactic(auto, unfolding(crate::specs::PageWarnings::row_warnings))]
+fn push_row(
+    found: &mut Vec<Warning>,
+    page: &Page,
+    number: u8,
+    hidden: bool,
+) -> Result<(), AllocError>
+    requires from { 1 ≤ number }
+    requires to { number ≤ 24 }
+    requires hidden { hidden ≡ is_hidden (page_row (page_of page.now)) number }
+    ensures { OnOk result (found.new.items ≡ found.old.items ++ row_warnings (page_of page.now) number) }
+{
+    push_placed(found, page, number, hidden)?;
+    push_signs(found, page, number, row(page, number))
 }
 
 // Whether a row hides the one below it.

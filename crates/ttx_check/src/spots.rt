@@ -33,8 +33,8 @@ fn value_at(values: &[Value], index: usize) -> Option<&Value>
     values.get(index)
 }
 
-// The table of a page, counted from 1.
-fn page_table<'a>(table: &'a Table, page: usize) -> Option<&'a Table>
+/// The table of a page, counted from 1.
+pub fn page_table<'a>(table: &'a Table, page: usize) -> Option<&'a Table>
     ensures { option_map (λ t. table_view t.now) result ≡ rule.page_table (table_view table.now) page }
 {
     if page == 0 {
@@ -67,8 +67,8 @@ fn is_service_key(key: &str) -> bool
     is_one_of(service_names(), key)
 }
 
-// The path of the table that a key outside pages belongs to.
-fn key_table(key: &str) -> &'static str
+/// The path of the table that a key outside pages belongs to.
+pub fn key_table(key: &str) -> &'static str
     ensures { result.now ≡ rule.key_table key.now }
 {
     if is_service_key(key) { "" } else { "/info" }
@@ -93,8 +93,8 @@ fn push_service_path(path: &mut String, fault: SourceFault) -> Result<(), AllocE
     }
 }
 
-// Adds the name of a key outside pages.
-fn push_service_name(name: &mut String, key: &str) -> Result<(), AllocError>
+/// Adds the name of a key outside pages.
+pub fn push_service_name(name: &mut String, key: &str) -> Result<(), AllocError>
     ensures { OnOk result (string_bytes name.new ≡ string_bytes name.old ++ rule.service_name key.now) }
 {
     if is_service_key(key) {
@@ -104,8 +104,8 @@ fn push_service_name(name: &mut String, key: &str) -> Result<(), AllocError>
     }
 }
 
-// Adds the path to a part of a page, after that of the page.
-fn push_part_path(path: &mut String, part: Part<'_>) -> Result<(), AllocError>
+/// Adds the path to a part of a page, after that of the page.
+pub fn push_part_path(path: &mut String, part: Part<'_>) -> Result<(), AllocError>
     ensures { OnOk result (string_bytes path.new ≡ string_bytes path.old ++ part_path (part_view part.entry)) }
 {
     match part {
@@ -119,8 +119,8 @@ fn push_part_path(path: &mut String, part: Part<'_>) -> Result<(), AllocError>
     }
 }
 
-// Adds the name of a part of a page, after that of the page.
-fn push_part_name(name: &mut String, part: Part<'_>) -> Result<(), AllocError>
+/// Adds the name of a part of a page, after that of the page.
+pub fn push_part_name(name: &mut String, part: Part<'_>) -> Result<(), AllocError>
     ensures { OnOk result (string_bytes name.new ≡ string_bytes name.old ++ part_name (part_view part.entry)) }
 {
     match part {
@@ -134,8 +134,8 @@ fn push_part_name(name: &mut String, part: Part<'_>) -> Result<(), AllocError>
     }
 }
 
-// The text at a key, or `other` if there is none.
-fn text_or<'a>(table: &'a Table, key: &str, other: &'a str) -> &'a str
+/// The text at a key, or `other` if there is none.
+pub fn text_or<'a>(table: &'a Table, key: &str, other: &'a str) -> &'a str
     ensures { result.now ≡ rule.text_or other.now (text_in (get_member key.now (table_view table.now))) }
 {
     match text_at(table, key) {
@@ -144,8 +144,8 @@ fn text_or<'a>(table: &'a Table, key: &str, other: &'a str) -> &'a str
     }
 }
 
-// The text at a key of an inner table, or an empty one.
-fn inner_text<'a>(table: &'a Table, inner: &str, key: &str) -> &'a str
+/// The text at a key of an inner table, or an empty one.
+pub fn inner_text<'a>(table: &'a Table, inner: &str, key: &str) -> &'a str
     ensures { result.now ≡ rule.text_at key.now (table_in (get_member inner.now (table_view table.now))) }
 {
     match table_at(table, inner) {
@@ -154,8 +154,8 @@ fn inner_text<'a>(table: &'a Table, inner: &str, key: &str) -> &'a str
     }
 }
 
-// Adds the id of a page, or its number in the text if it has no id.
-fn push_page_id(name: &mut String, page: &Table, order: usize) -> Result<(), AllocError>
+/// Adds the id of a page, or its number in the text if it has no id.
+pub fn push_page_id(name: &mut String, page: &Table, order: usize) -> Result<(), AllocError>
     ensures { OnOk result (string_bytes name.new ≡ string_bytes name.old ++ rule.page_id (table_view page.now) order) }
 {
     if is_number_refused(page) || is_sub_refused(page) {
@@ -239,15 +239,15 @@ fn count_words(alloc: Global, count: usize, most: usize) -> Result<String, Alloc
     Ok(detail)
 }
 
-// How many characters a text has, and how many fit.
-fn count_text(alloc: Global, text: &str, most: usize) -> Result<String, AllocError>
+/// How many characters a text has, and how many fit.
+pub fn count_text(alloc: Global, text: &str, most: usize) -> Result<String, AllocError>
     ensures { IfOk result (λ detail. string_bytes detail ≡ rule.count_text most text.now) }
 {
     count_words(alloc, char_count(text), most)
 }
 
-// The same for a text of a page that is too long.
-fn part_count(alloc: Global, page: &Table, part: Part<'_>) -> Result<String, AllocError>
+/// The same for a text of a page that is too long.
+pub fn part_count(alloc: Global, page: &Table, part: Part<'_>) -> Result<String, AllocError>
     ensures { IfOk result (λ detail. string_bytes detail ≡ rule.part_count (table_view page.now) (part_view part.entry)) }
 {
     match part {

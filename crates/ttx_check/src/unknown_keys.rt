@@ -10,6 +10,7 @@ ghost use Rattle.ttx_page.specs.Views.{page_of};
 ghost use Rattle.ttx_check.specs.UnknownKeys as rule;
 ghost use Rattle.ttx_check.specs.WarningLines.{page_text};
 
+use crate::acceptance::is_row_key;
 use crate::texts::push_both;
 use crate::warning_lines::push_place;
 use std::alloc::{AllocError, Global};
@@ -135,6 +136,54 @@ fn push_meant(alloc: Global, text: &mut String, names: &[&str], key: &str) -> Re
     }
 }
 
+/// Where a key stands that another table has; empty if none has it.
+#[tactic(auto, unfolding(crate::specs::UnknownKeys::home_of))]
+pub fn home_of(key: &str) -> &'static str
+    ensures { result.now ≡ rule.home_of key.now }
+{
+    if is_one_of(page_names(), key) {
+        return ": it stands in [[page]], above [page.rows]";
+    }
+    if is_one_of(service_names(), key) {
+        return ": it stands above [info] and [[page]]";
+    }
+    if is_row_key(key) {
+        return ": it stands in [page.rows]";
+    }
+    if is_one_of(info_names(), key) {
+        ": it stands in [info]"
+    } else {
+        ""
+    }
+}
+
+// Adds where a key stands, or the name that was probably meant.
+fn push_hint(alloc: Global, text: &mut String, names: &[&str], key: &str) -> Result<(), AllocError>
+    ensures { OnOk result (string_bytes text.new ≡ string_bytes text.old ++ rule.hint (map (λ n. n.now) names.now) key.now) }
+{
+    let home = home_of(key);
+    if home.is_empty() {
+        push_meant(alloc, text, names, key)
+    } else {
+        text.push_str(home)
+    }
+}
+
+/// Adds the words about a key that is not one of these names.
+#[tactic(auto, unfolding(crate::specs::UnknownKeys::key_words))]
+pub fn push_key_words(
+    alloc: Global,
+    text: &mut String,
+    names: &[&str],
+    key: &str,
+) -> Result<(), AllocError>
+    ensures { OnOk result (string_bytes text.new ≡ string_bytes text.old ++ rule.key_words (map (λ n. n.now) names.now) key.now) }
+{
+    text.push_str(": no key ")?;
+    push_shown(text, key)?;
+    push_hint(alloc, text, names, key)
+}
+
 // Adds the line about a key.
 #[tactic(auto, unfolding(crate::specs::UnknownKeys::key_line))]
 fn push_key_line(
@@ -147,9 +196,7 @@ fn push_key_line(
     ensures { OnOk result (string_bytes text.new ≡ string_bytes text.old ++ rule.key_line place.now (map (λ n. n.now) names.now) key.now) }
 {
     push_both(text, "warning ", place)?;
-    text.push_str(": no key ")?;
-    push_shown(text, key)?;
-    push_meant(alloc, text, names, key)?;
+    push_key_words(alloc, text, names, key)?;
     text.push('\n')
 }
 
@@ -218,13 +265,15 @@ pub fn service_names() -> &'static [&'static str]
     &SERVICE_KEYS
 }
 
-fn info_names() -> &'static [&'static str]
+/// The keys of `info`.
+pub fn info_names() -> &'static [&'static str]
     ensures { map (λ n. n.now) result.now ≡ rule.info_keys }
 {
     &INFO_KEYS
 }
 
-fn page_names() -> &'static [&'static str]
+/// The keys of a page.
+pub fn page_names() -> &'static [&'static str]
     ensures { map (λ n. n.now) result.now ≡ rule.page_keys }
 {
     &PAGE_KEYS

@@ -1,8 +1,9 @@
-pub mod Values
-pub mod Keys
-pub mod Services
-pub mod Views
-pub mod Promises
-pub mod PromiseViews
+pub mod Accepted
 pub mod Faults
 pub mod KeyFaults
+pub mod Keys
+pub mod PromiseViews
+pub mod Promises
+pub mod Services
+pub mod Values
+pub mod Views

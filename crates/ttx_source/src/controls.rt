@@ -12,8 +12,8 @@ use crate::values::{flag, integer_or, within};
 use toml::Table;
 use ttx_header::Control;
 
-// The national option, 0 to 7.
-fn option(page: &Table) -> Result<u32, KeyFault>
+/// The national option, 0 to 7.
+pub fn option(page: &Table) -> Result<u32, KeyFault>
     ensures value { key_outcome (λ n. n) result ≡ rule.option (table_view page.now) }
     ensures most { IfOk result (λ n. n ≤ 7) }
 {

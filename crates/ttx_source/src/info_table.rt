@@ -13,7 +13,8 @@ use toml::Table;
 use ttx_info::Info;
 use ttx_links::Target;
 
-fn designation(info: &Table) -> Result<u8, KeyFault>
+/// The designation of packet 8/30, 0 or 1.
+pub fn designation(info: &Table) -> Result<u8, KeyFault>
     ensures value { key_outcome (λ n. n) result ≡ rule.designation (table_view info.now) }
     ensures range { IfOk result (λ n. n < 2) }
 {
@@ -26,20 +27,22 @@ fn designation(info: &Table) -> Result<u8, KeyFault>
     Ok(number as u8)
 }
 
-fn initial(info: &Table) -> Result<Option<Target>, KeyFault>
+/// The page that a receiver shows first, if there is one.
+pub fn initial(info: &Table) -> Result<Option<Target>, KeyFault>
     ensures { key_outcome (λ l. l) result ≡ rule.initial (table_view info.now) }
 {
     link(text_or(info, Key::Initial, "")?)
 }
 
-fn network(info: &Table) -> Result<[u8; 2], KeyFault>
+/// The code of the network.
+pub fn network(info: &Table) -> Result<[u8; 2], KeyFault>
     ensures { key_outcome (λ b. b) result ≡ rule.network (table_view info.now) }
 {
     byte_pair(text(info, Key::Network)?, Key::Network)
 }
 
-// The local offset in half hours, and whether it is negative.
-fn halves(info: &Table) -> Result<(u8, bool), KeyFault>
+/// The local offset in half hours, and whether it is negative.
+pub fn halves(info: &Table) -> Result<(u8, bool), KeyFault>
     ensures value { key_outcome (λ h. h) result ≡ rule.halves (table_view info.now) }
     ensures range { IfOk result (λ h. h.0 < 32) }
 {
@@ -68,7 +71,8 @@ fn clock(info: &Table) -> Result<((u8, bool), (u32, u32)), KeyFault>
     Ok((offset, (mjd, utc)))
 }
 
-fn status(info: &Table) -> Result<[u8; 20], KeyFault>
+/// The status display.
+pub fn status(info: &Table) -> Result<[u8; 20], KeyFault>
     ensures value { key_outcome (λ t. t) result ≡ rule.text (table_view info.now) }
     ensures codes { IfOk result (λ t. (c : ℕ) → slice_index t c < 128) }
 {

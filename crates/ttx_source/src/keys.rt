@@ -2,6 +2,7 @@
 
 ghost use Rattle.std.specs.Prelude.{◌≡◌};
 ghost use Rattle.ttx_source.specs.KeyFaults.{key_name};
+ghost use Rattle.ttx_source.specs.Accepted.{takes_of};
 
 /// A key, by the last part of its name.
 #[derive(Clone, Copy)]
@@ -86,6 +87,13 @@ impl Key {
         ensures { result.now ≡ key_name self }
     {
         KEYS[self as usize].0
+    }
+
+    /// What the key takes, in words.
+    pub fn takes(self) -> &'static str
+        ensures { result.now ≡ takes_of self }
+    {
+        KEYS[self as usize].1
     }
 }
 

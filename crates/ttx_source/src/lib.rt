@@ -1,21 +1,21 @@
 //! Service definitions: the settings and pages of a service, read from TOML.
 #![tactic(auto)]
 
-mod controls;
+pub mod controls;
 pub mod faults;
-mod info_table;
-mod key_faults;
-mod keys;
-mod links;
-mod page_table;
-mod promises;
-mod reading;
-mod rows;
+pub mod info_table;
+pub mod key_faults;
+pub mod keys;
+pub mod links;
+pub mod page_table;
+pub mod promises;
+pub mod reading;
+pub mod rows;
 pub mod services;
-mod texts;
-mod values;
+pub mod texts;
+pub mod values;
 
 pub use faults::{SourceError, SourceFault};
-pub use promises::{Promise, read_promises, read_stays};
-pub use reading::read_service;
+pub use promises::{Promise, promises_of_table, read_promises, read_stays};
+pub use reading::{read_service, service_of_table};
 pub use services::Service;

@@ -13,8 +13,8 @@ use crate::values::{array_of, flag, member, text_of, text_or};
 use toml::{Table, Value};
 use ttx_links::{Links, Target};
 
-// The link in one value of the array.
-fn link_of(value: &Value) -> Result<Option<Target>, KeyFault>
+/// The link in one value of the array.
+pub fn link_of(value: &Value) -> Result<Option<Target>, KeyFault>
     ensures { key_outcome (λ l. l) result ≡ rule.link_of (view value.now) }
 {
     link(text_of(value, Key::Links)?)
@@ -63,7 +63,8 @@ fn six_links(page: &Table) -> Result<[Option<Target>; 6], KeyFault>
     six_of(values)
 }
 
-fn crc(page: &Table) -> Result<[u8; 2], KeyFault>
+/// The two bytes of the page CRC.
+pub fn crc(page: &Table) -> Result<[u8; 2], KeyFault>
     ensures { key_outcome (λ b. b) result ≡ rule.crc (table_view page.now) }
 {
     byte_pair(text_or(page, Key::Crc, "0000")?, Key::Crc)

@@ -39,8 +39,8 @@ fn id(page: &Table, service: &Service) -> Result<PageId, KeyFault>
     Ok(id)
 }
 
-// How often a page is sent in a cycle: 1, 2, 4 or 8 times.
-fn often(page: &Table) -> Result<u8, KeyFault>
+/// How often a page is sent in a cycle: 1, 2, 4 or 8 times.
+pub fn often(page: &Table) -> Result<u8, KeyFault>
     ensures value { key_outcome (λ n. n) result ≡ rule.often (table_view page.now) }
     ensures range { IfOk result (λ n. rule.is_often n ≡ true) }
 {
@@ -53,7 +53,8 @@ fn often(page: &Table) -> Result<u8, KeyFault>
     }
 }
 
-fn head(page: &Table) -> Result<[u8; 24], KeyFault>
+/// Columns 8 to 31 of row 0.
+pub fn head(page: &Table) -> Result<[u8; 24], KeyFault>
     ensures value { key_outcome (λ t. t) result ≡ rule.head (table_view page.now) }
     ensures codes { IfOk result (λ t. (c : ℕ) → slice_index t c < 128) }
 {

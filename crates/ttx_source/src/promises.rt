@@ -64,8 +64,8 @@ fn fields_of(key: Key, value: &Value) -> Result<u32, KeyFault>
     }
 }
 
-// The promise of the page at an index, where it has one at the key.
-fn promise_of(key: Key, page: usize, table: &Table) -> Result<Option<Promise>, KeyFault>
+/// The promise of the page at an index, where it has one at the key.
+pub fn promise_of(key: Key, page: usize, table: &Table) -> Result<Option<Promise>, KeyFault>
     ensures { key_outcome promise_list result ≡ rule.promise_of (key_name key) page (table_view table.now) }
 {
     let Some(value) = member(table, key) else {
@@ -164,6 +164,17 @@ pub fn read_promises(alloc: Global, bytes: &[u8]) -> Result<Vec<Promise>, Source
     ensures { IsSourceUnlessMemory result (outcome_in_page (λ ps. map promise_view ps.items) result ≡ rule.read_promises bytes.now) }
 {
     match read(alloc, Key::Within, bytes) {
+        Ok(promises) => Ok(promises),
+        Err(fault) => Err(fault.source_error()),
+    }
+}
+
+/// The promises of the service in the table of a text, or the first fault, as `read_promises` reads them.
+pub fn promises_of_table(alloc: Global, table: &Table) -> Result<Vec<Promise>, SourceError>
+    ensures { IsSourceUnlessMemory result (outcome_in_page (λ ps. map promise_view ps.items) result
+        ≡ rule.promises_of (codes "within") (table_view table.now)) }
+{
+    match promises_of(alloc, Key::Within, table) {
         Ok(promises) => Ok(promises),
         Err(fault) => Err(fault.source_error()),
     }

@@ -147,3 +147,13 @@ pub fn read_service(alloc: Global, bytes: &[u8]) -> Result<Service, SourceError>
         Err(fault) => Err(fault.source_error()),
     }
 }
+
+/// The service in the table of a text, or its first fault, as `read_service` reads it.
+pub fn service_of_table(alloc: Global, table: &Table) -> Result<Service, SourceError>
+    ensures { IsSourceUnlessMemory result (outcome_in_page (λ s. s) result ≡ rule.service_of (table_view table.now)) }
+{
+    match service_of(alloc, table) {
+        Ok(service) => Ok(service),
+        Err(fault) => Err(fault.source_error()),
+    }
+}

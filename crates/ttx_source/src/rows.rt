@@ -41,8 +41,8 @@ fn blank_row() -> [u8; 40]
     [b' '; 40]
 }
 
-// The row in a value; spaces if there is none.
-fn row_of(value: Option<&Value>) -> Result<[u8; 40], KeyFault>
+/// The row in a value; spaces if there is none.
+pub fn row_of(value: Option<&Value>) -> Result<[u8; 40], KeyFault>
     ensures value { key_outcome (λ r. r) result ≡ rule.row_of (option_map (λ v. view v.now) value.entry) }
     ensures row { IfOk result IsRow }
 {

@@ -1,5 +1,5 @@
 use Rattle.std.proofs.Common.{◌≡◌, ◌∙◌, [], Some, Result, Ok, Err, IfOk, string_bytes, ap, arith}
-use Rattle.ttx_source.specs.Faults.{fault_of}
+use Rattle.ttx_source.specs.Values.{not_toml}
 use Rattle.ttx_check.specs.Refusals.{error_line, place_text}
 use Rattle.ttx_check.proofs.refusals.toml_line.Goals as goal
 
@@ -10,7 +10,7 @@ ok_map P Q (Err e) f h = h
 pub returns : goal.returns
 returns c =
     let bytes = c.args.bytes.now in
-    let fault = fault_of c.args.fault in
+    let fault = not_toml in
     let start = c.in-Some.span.start in
     let detail = c.as_str-2.result.now in
     ok_map (λ line. string_bytes line ≡ error_line c.as_str.result.now fault detail) _ c.line_of.result
