@@ -234,7 +234,7 @@ def crates():
 def listed(document, start):
     """The names of crates in the line of a document that begins or goes on with these words."""
     line = next((line for line in (TOP / document).read_text().splitlines() if start in line), "")
-    return {name for name in re.findall(r"[a-z_]+", line.partition(start)[2])}
+    return {name for name in re.findall(r"[a-z_0-9]+", line.partition(start)[2])}
 
 
 def wrong_crates():

@@ -1,0 +1,2 @@
+mod PossibleEndings
+mod BroadcastSteps

@@ -1,0 +1,16 @@
+//! A service on the air from its text: the first edition, the log with what was asked for, and the airing, while an author changes the text.
+#![tactic(auto)]
+
+mod broadcasting;
+mod faults;
+mod log_copy;
+mod request;
+mod settings;
+
+pub use broadcasting::broadcast;
+pub use faults::BroadcastFault;
+pub use log_copy::LogCopy;
+pub use request::{ClockName, Request};
+pub use ttx_air::Outputs;
+pub use ttx_newsroom::TextSource;
+pub use ttx_press::{Demand, ServiceFile};
