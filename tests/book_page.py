@@ -10,7 +10,7 @@ HEAD = (
 SHEET = (
     '.t path{fill:none;stroke:currentColor;stroke-width:8;shape-rendering:crispEdges}.t '
     '.g{stroke-width:24}.t .s{stroke-width:6;stroke-dasharray:0 1 8 1}.t text{font:24px Bedstead '
-    'Extended,Bedstead,ui-monospace,Menlo,Consolas,DejaVu Sans Mono,monospace;text-anchor:middle;'
+    'Extended,Bedstead,ui-monospace,Menlo,Consolas,DejaVu Sans Mono,monospace;'
     'white-space:pre}.t tspan{fill:currentColor}.c0{color:#000}.c1{color:#f00}.c2{color:#0f0}'
     '.c3{color:#ff0}.c4{color:#00f}.c5{color:#f0f}.c6{color:#0ff}.c7{color:#fff}.t .c8{color:#456;'
     'stroke-dasharray:19 1}.f{animation:f 1s step-end infinite}@keyframes f{50%{color:transparent}}'
@@ -21,7 +21,8 @@ SHEET = (
 )
 BOOK_SHEET = (
     '.i{flex-wrap:wrap}.i a{padding:.4em;color:#fff}h2{font-size:1em;margin:0;padding:.7em}'
-    'section{content-visibility:auto;contain-intrinsic-size:auto 47em}#n{position:fixed;top:0;right:0;'
+    '.i a{display:flex;flex:1 1 22em;gap:1em;text-decoration:none}.i span{white-space:pre;font-family:monospace}'
+    'section{content-visibility:auto;contain-intrinsic-size:auto calc(min(100vw,800px)*.75 + 7.7em)}#n{position:fixed;top:0;right:0;'
     'background:#000;color:#fff;padding:.2em .4em;font-size:1.5em}#n:empty{display:none}'
 )
 INDEX = (
@@ -31,16 +32,14 @@ SCRIPT = (
     "<script>var t='',n=document.getElementById('n');document.addEventListener('keydown',"
     'function(e){if(e.ctrlKey||e.altKey||e.metaKey||!/^[0-9]$/.test(e.key))return;'
     't=t.length==3?e.key:t+e.key;n.textContent=t;if(t.length==3){var p=document.getElementById(t);'
-    "if(p){location.hash=t;p.scrollIntoView();n.textContent=''}else n.textContent=t+'?'}})</script>"
+    "if(p){location.hash=t;n.textContent='';s(p,9)}else n.textContent=t+'?'}});"
+    'function s(p,k){p.scrollIntoView();if(k)setTimeout(function(){s(p,k-1)},50)}</script>'
 )
 SVG = (
     '<svg xmlns="http://www.w3.org/2000/svg" class="t" viewBox="0 0 800 600" xml:space="preserve" '
     'role="img" aria-label="Teletext page"><rect width="800" height="600"/>'
 )
-TEXT = (
-    '<text y="18" x="10 30 50 70 90 110 130 150 170 190 210 230 250 270 290 310 330 350 370 390 410 430 '
-    '450 470 490 510 530 550 570 590 610 630 650 670 690 710 730 750 770 790">'
-)
+TEXT = '<text y="18" textLength="800" lengthAdjust="spacingAndGlyphs">'
 ENTITIES = {"<": "&lt;", ">": "&gt;", "&": "&amp;", '"': "&quot;", "'": "&#39;"}
 KEYS = (("Red", 1), ("Green", 2), ("Yellow", 3), ("Cyan", 6), ("Next", 7), ("Index", 7))
 
@@ -83,7 +82,7 @@ def letters(row):
     if not text:
         return ""
     out, pen = TEXT, None
-    for c, fore, _ in row[: len(text)]:
+    for c, fore, _ in row:
         if c != " " and fore != pen:
             out += ("</tspan>" if pen is not None else "") + f'<tspan class="c{fore}">'
             pen = fore
@@ -115,9 +114,14 @@ def leaf(number, sub, rows, links, first):
     )
 
 
+def title(codes):
+    """The 24 characters of a page header."""
+    return escaped("".join(chr(code) if code >= 0x20 else " " for code in codes.get(0, b"").ljust(40)[8:32]))
+
+
 def book(pages):
     """The book of pages in the order of their numbers. A page is its number, its subcode, the codes of its rows by number, its links by key."""
-    index = "".join(f'<a href="#{number}/{sub}">{number}/{sub}</a>' for number, sub, _, _ in pages)
+    index = "".join(f'<a href="#{number}/{sub}">{number}/{sub}<span>{title(codes)}</span></a>' for number, sub, codes, _ in pages)
     leaves, former = "", None
     for number, sub, codes, links in pages:
         rows = [cells(codes.get(n, b"").ljust(40)) for n in range(25)]

@@ -29,7 +29,8 @@ fn push_book_style(text: &mut String) -> Result<(), AllocError>
 {
     text.push_str(
         ".i{flex-wrap:wrap}.i a{padding:.4em;color:#fff}h2{font-size:1em;margin:0;padding:.7em}\
-          section{content-visibility:auto;contain-intrinsic-size:auto 47em}\
+          .i a{display:flex;flex:1 1 22em;gap:1em;text-decoration:none}.i span{white-space:pre;font-family:monospace}\
+          section{content-visibility:auto;contain-intrinsic-size:auto calc(min(100vw,800px)*.75 + 7.7em)}\
           #n{position:fixed;top:0;right:0;background:#000;color:#fff;padding:.2em .4em;font-size:1.5em}#n:empty{display:none}",
     )
 }
@@ -50,8 +51,8 @@ fn push_script(text: &mut String) -> Result<(), AllocError>
     text.push_str(
         "<script>var t='',n=document.getElementById('n');document.addEventListener('keydown',function(e){\
           if(e.ctrlKey||e.altKey||e.metaKey||!/^[0-9]$/.test(e.key))return;t=t.length==3?e.key:t+e.key;n.textContent=t;\
-          if(t.length==3){var p=document.getElementById(t);if(p){location.hash=t;p.scrollIntoView();n.textContent=''}\
-          else n.textContent=t+'?'}})</script>",
+          if(t.length==3){var p=document.getElementById(t);if(p){location.hash=t;n.textContent='';s(p,9)}\
+          else n.textContent=t+'?'}});function s(p,k){p.scrollIntoView();if(k)setTimeout(function(){s(p,k-1)},50)}</script>",
     )
 }
 
@@ -70,12 +71,12 @@ fn push_styles(text: &mut String) -> Result<(), AllocError>
     push_book_style(text)
 }
 
-fn push_head(text: &mut String, ids: &[PageId]) -> Result<(), AllocError>
-    ensures { OnOk result (string_bytes text.new ≡ string_bytes text.old ++ head_of ids.now) }
+fn push_head(text: &mut String, headers: &[[u8; 42]]) -> Result<(), AllocError>
+    ensures { OnOk result (string_bytes text.new ≡ string_bytes text.old ++ head_of headers.now) }
 {
     push_styles(text)?;
     push_index_start(text)?;
-    push_index(text, ids)?;
+    push_index(text, headers)?;
     text.push_str("</nav>")
 }
 
@@ -84,12 +85,13 @@ fn push_book(
     text: &mut String,
     slots: &[[u8; 42]],
     pages: &Index,
+    headers: &[[u8; 42]],
     ids: &[PageId],
 ) -> Result<(), AllocError>
     requires { length pages.now ≡ length slots.now }
-    ensures { OnOk result (string_bytes text.new ≡ string_bytes text.old ++ book_of slots.now pages.now ids.now) }
+    ensures { OnOk result (string_bytes text.new ≡ string_bytes text.old ++ book_of slots.now pages.now headers.now ids.now) }
 {
-    push_head(text, ids)?;
+    push_head(text, headers)?;
     push_leaves(text, slots, pages, ids)?;
     push_script(text)?;
     push_book_end(text)
@@ -104,6 +106,6 @@ pub fn book_text(alloc: Global, slots: &[[u8; 42]]) -> Result<String, AllocError
     let headers = page_headers(alloc, slots)?;
     let ids = leaf_ids(alloc, headers.as_slice())?;
     let mut text = String::new(alloc);
-    push_book(&mut text, slots, &pages, ids.as_slice())?;
+    push_book(&mut text, slots, &pages, headers.as_slice(), ids.as_slice())?;
     Ok(text)
 }

@@ -37,8 +37,8 @@ pub(crate) fn page_view(slots: &[[u8; 42]], pages: &Index, id: PageId) -> View
     render(receiver.memory())
 }
 
-// The page of a header; `None` for a time-filling header.
-fn leaf_id(slot: &[u8; 42]) -> Option<PageId>
+/// The page of a header; `None` for a time-filling header.
+pub(crate) fn leaf_id(slot: &[u8; 42]) -> Option<PageId>
     ensures { result ≡ leaf_id slot.now }
 {
     let header = read_header(slot)?;

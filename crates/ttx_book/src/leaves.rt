@@ -1,14 +1,17 @@
 //! The pages of a book, and its index.
 
-ghost use Rattle.std.specs.Prelude.{◌≡◌, ◌++◌, OnOk, length, string_bytes};
-ghost use Rattle.ttx_book.specs.Books.{name_of, index_entry, index_html, full_number, anchor, section_tag, heading, leaf_end, leaf_html, leaves_html};
+ghost use Rattle.std.specs.Prelude.{◌≡◌, ◌<◌, ◌++◌, OnOk, length, string_bytes};
+ghost use Rattle.ttx_header.specs.Headers.{header_fields_of};
+ghost use Rattle.ttx_book.specs.Hearing.{leaf_id};
+ghost use Rattle.ttx_book.specs.Books.{name_of, title_char, title_text, title_of, entry_start, entry_end, index_entry, entry_or_none, index_html, full_number, anchor, section_tag, heading, leaf_end, leaf_html, leaves_html};
 
-use crate::hearing::page_view;
+use crate::hearing::{leaf_id, page_view};
 use crate::placing::Index;
 use std::alloc::AllocError;
+use ttx_charset::glyph;
 use ttx_digits::{digit, push_byte, push_id};
-use ttx_header::PageId;
-use ttx_picture::push_figure;
+use ttx_header::{Header, PageId, read_header};
+use ttx_picture::{push_escaped, push_figure};
 
 #[tactic(auto, unfolding(crate::specs::Books::name_of))]
 fn push_name(text: &mut String, id: PageId) -> Result<(), AllocError>
@@ -17,23 +20,77 @@ fn push_name(text: &mut String, id: PageId) -> Result<(), AllocError>
     push_id(text, id)
 }
 
-#[tactic(auto, unfolding(crate::specs::Books::index_entry))]
-fn push_index_entry(text: &mut String, id: PageId) -> Result<(), AllocError>
-    ensures { OnOk result (string_bytes text.new ≡ string_bytes text.old ++ index_entry id) }
+fn title_char(option: u8, byte: u8) -> char
+    requires { option < 8 }
+    ensures { result ≡ title_char option byte }
+{
+    let code = byte % 128;
+    if code < 32 { ' ' } else { glyph(option, code) }
+}
+
+// Appends characters under a national option.
+fn push_title_text(text: &mut String, option: u8, bytes: &[u8]) -> Result<(), AllocError>
+    requires { option < 8 }
+    ensures { OnOk result (string_bytes text.new ≡ string_bytes text.old ++ title_text option bytes.now) }
+{
+    for byte in bytes {
+        push_escaped(text, title_char(option, *byte))?;
+    }
+    Ok(())
+}
+
+// Appends the characters of a page header.
+#[tactic(auto, unfolding(crate::specs::Books::title_of))]
+fn push_title(text: &mut String, header: &Header) -> Result<(), AllocError>
+    ensures { OnOk result (string_bytes text.new ≡ string_bytes text.old ++ title_of header.now) }
+{
+    push_title_text(text, header.control().option(), header.text())
+}
+
+// Appends the first part of an entry: the link and its name.
+#[tactic(auto, unfolding(crate::specs::Books::entry_start))]
+fn push_entry_start(text: &mut String, id: PageId) -> Result<(), AllocError>
+    ensures { OnOk result (string_bytes text.new ≡ string_bytes text.old ++ entry_start id) }
 {
     text.push_str("<a href=\"#")?;
     push_name(text, id)?;
     text.push_str("\">")?;
-    push_name(text, id)?;
-    text.push_str("</a>")
+    push_name(text, id)
 }
 
-/// Appends links to the pages.
-pub(crate) fn push_index(text: &mut String, ids: &[PageId]) -> Result<(), AllocError>
-    ensures { OnOk result (string_bytes text.new ≡ string_bytes text.old ++ index_html ids.now) }
+// Appends the last part of an entry: the characters of the page header.
+#[tactic(auto, unfolding(crate::specs::Books::entry_end))]
+fn push_entry_end(text: &mut String, header: &Header) -> Result<(), AllocError>
+    ensures { OnOk result (string_bytes text.new ≡ string_bytes text.old ++ entry_end header.now) }
 {
-    for id in ids {
-        push_index_entry(text, *id)?;
+    text.push_str("<span>")?;
+    push_title(text, header)?;
+    text.push_str("</span></a>")
+}
+
+fn push_index_entry(text: &mut String, header: &Header, id: PageId) -> Result<(), AllocError>
+    ensures { OnOk result (string_bytes text.new ≡ string_bytes text.old ++ index_entry header.now id) }
+{
+    push_entry_start(text, id)?;
+    push_entry_end(text, header)
+}
+
+// Appends the entry of a page header, unless it is time-filling.
+fn push_entry(text: &mut String, slot: &[u8; 42]) -> Result<(), AllocError>
+    ensures { OnOk result (string_bytes text.new ≡ string_bytes text.old ++ entry_or_none (header_fields_of slot.now) (leaf_id slot.now)) }
+{
+    match (read_header(slot), leaf_id(slot)) {
+        (Some(header), Some(id)) => push_index_entry(text, &header, id),
+        _ => Ok(()),
+    }
+}
+
+/// Appends links to the pages of these headers.
+pub(crate) fn push_index(text: &mut String, headers: &[[u8; 42]]) -> Result<(), AllocError>
+    ensures { OnOk result (string_bytes text.new ≡ string_bytes text.old ++ index_html headers.now) }
+{
+    for header in headers {
+        push_entry(text, header)?;
     }
     Ok(())
 }

@@ -204,10 +204,9 @@ module _ (w : List (List ℕ)) where
         Reads (span_at current) (letters reveal tall current cells) (reading_at InText w)
     all_letters current [] h = ends_span current
     all_letters current (cell ∷ cells) h =
-        choose (has_no_letters reveal tall (cell ∷ cells)) (ends_span current)
-        (join (one_letter current (letter_of reveal tall cell) (ink cell false)
+        join (one_letter current (letter_of reveal tall cell) (ink cell false)
         (escaped_quiet (letter_of reveal tall cell) (letter_low reveal tall cell h.0)))
-        (all_letters (span_after current (letter_of reveal tall cell) (ink cell false)) cells h.1))
+        (all_letters (span_after current (letter_of reveal tall cell) (ink cell false)) cells h.1)
 
 -- ---- rows
 
@@ -297,11 +296,13 @@ module _ (w : List (List ℕ)) where
   class_read : (name : List ℕ) (colour : ℕ) → Reads (reading_at (InName name) w) (key_class colour) (reading_at (InValue name) w)
   class_read name colour = join {s = codes " class=\"k c"} (reads refl) (in_value w (decimal_quiet colour))
 
-  start_read : (colour : ℕ) (id : Id) → Reads (reading_at InText w) (key_start colour id) (reading_at (InValue (codes "a")) w)
+  start_read : (linked : Bool) (colour : ℕ) (id : Id) →
+      Reads (reading_at InText w) (key_start linked colour id) (reading_at (InValue (codes "a")) w)
   unfolding key_start
-  start_read colour id =
+  start_read true colour id =
       join (join {t = codes "\" href=\"#"} (join {s = codes "<a"} (reads refl) (class_read (codes "a") colour)) (reads refl))
       (in_value w (id_quiet id))
+  start_read false colour id = join {s = codes "<a"} (reads refl) (class_read (codes "a") colour)
 
   title_read : (name : List ℕ) (id : Id) → IsQuiet name →
       Reads (reading_at (InValue (codes "a")) w) (key_title name id) (reading_at (InValue (codes "a")) w)
@@ -314,18 +315,18 @@ module _ (w : List (List ℕ)) where
   unfolding key_end
   end_read id = join {t = codes "</a>"} (join {s = codes "\">"} (reads refl) (in_text (codes "a" ∷ w) (id_quiet id))) (reads refl)
 
-  key_read : (name : List ℕ) (colour : ℕ) (id : Option Id) → IsQuiet name → Stays w (key_html name colour id)
-  key_read name colour None h = join {t = codes "\">-</span>"} (join {s = codes "<span"} (reads refl) (class_read (codes "span") colour)) (reads refl)
-  key_read name colour (Some id) h = join (join (start_read colour id) (title_read name id h)) (end_read id)
+  key_read : (linked : Bool) (name : List ℕ) (colour : ℕ) (id : Option Id) → IsQuiet name → Stays w (key_html linked name colour id)
+  key_read linked name colour None h = join {t = codes "\">-</span>"} (join {s = codes "<span"} (reads refl) (class_read (codes "span") colour)) (reads refl)
+  key_read linked name colour (Some id) h = join (join (start_read linked colour id) (title_read name id h)) (end_read id)
 
-  keys_read : (view : Screen) → Stays w (keys_html view)
-  keys_read view =
+  keys_read : (linked : Bool) (view : Screen) → Stays w (keys_html linked view)
+  keys_read linked view =
       join (join (join
-      (join (join (key_read (codes "Red") 1 (coloured_link view 0) (calm refl))
-      (key_read (codes "Green") 2 (coloured_link view 1) (calm refl)))
-      (key_read (codes "Yellow") 3 (coloured_link view 2) (calm refl)))
-      (key_read (codes "Cyan") 6 (coloured_link view 3) (calm refl))) (key_read (codes "Next") 7 (coloured_link view 4) (calm refl)))
-      (key_read (codes "Index") 7 (coloured_link view 5) (calm refl))
+      (join (join (key_read linked (codes "Red") 1 (coloured_link view 0) (calm refl))
+      (key_read linked (codes "Green") 2 (coloured_link view 1) (calm refl)))
+      (key_read linked (codes "Yellow") 3 (coloured_link view 2) (calm refl)))
+      (key_read linked (codes "Cyan") 6 (coloured_link view 3) (calm refl))) (key_read linked (codes "Next") 7 (coloured_link view 4) (calm refl)))
+      (key_read linked (codes "Index") 7 (coloured_link view 5) (calm refl))
 
 -- ---- texts
 
@@ -359,8 +360,8 @@ module _ (w : List (List ℕ)) where
   picture_read : (reveal : Bool) (view : Screen) → ArePrinted view.cells → Stays w (picture_html reveal view)
   picture_read reveal view h = join {t = codes "</svg>"} (join (starts_svg w) (one_body (codes "svg" ∷ w) reveal view h)) (reads refl)
 
-  nav_read : (view : Screen) → Stays w (nav_html view)
-  nav_read view = join {t = codes "</nav>"} (join {s = codes "<nav>"} (reads refl) (keys_read (codes "nav" ∷ w) view)) (reads refl)
+  nav_read : (linked : Bool) (view : Screen) → Stays w (nav_html linked view)
+  nav_read linked view = join {t = codes "</nav>"} (join {s = codes "<nav>"} (reads refl) (keys_read (codes "nav" ∷ w) linked view)) (reads refl)
 
   text_read : (reveal : Bool) (view : Screen) → ArePrinted view.cells → Stays w (text_html reveal view)
   text_read reveal view h =
@@ -372,7 +373,7 @@ html_nested : (reveal : Bool) (view : Screen) → ArePrinted view.cells → IsNe
 html_nested reveal view h =
     let w : List (List ℕ) = codes "main" ∷ codes "body" ∷ codes "html" ∷ [] in
     (join {t = codes "</main></body></html>\n"}
-    (join (join (join head_read (picture_read w reveal view h)) (nav_read w view)) (text_read w reveal view h))
+    (join (join (join head_read (picture_read w reveal view h)) (nav_read w false view)) (text_read w reveal view h))
     (reads refl)).is
 
 pub tags_are_nested_lem : TagsAreNested

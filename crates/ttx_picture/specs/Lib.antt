@@ -1,10 +1,11 @@
-pub mod Shown
-pub mod Links
-pub mod Text
 pub mod Ansi
+pub mod Bare
 pub mod Escapes
-pub mod Svg
-pub mod Html
 pub mod Forms
-pub mod Tags
+pub mod Html
 pub mod Laws
+pub mod Links
+pub mod Shown
+pub mod Svg
+pub mod Tags
+pub mod Text

@@ -157,14 +157,12 @@ span_after current letter pen = if letter == 0x20 then current else Some pen
 abbrev pub letters : Bool → Bool → Option Pen → List Cell → List ℕ
 letters reveal tall current [] = span_end current
 letters reveal tall current (cell ∷ cells) =
-    if has_no_letters reveal tall (cell ∷ cells) then span_end current
-    else letter_text current (letter_of reveal tall cell) (ink cell false)
+    letter_text current (letter_of reveal tall cell) (ink cell false)
     ++ letters reveal tall (span_after current (letter_of reveal tall cell) (ink cell false)) cells
 
--- each character is centred in its cell
+-- the 40 characters of a row are stretched to its 40 cells, so each fills its cell in any face whose characters are equally wide
 unfoldable pub text_start : List ℕ
-text_start = codes "<text y=\"18\" x=\"10 30 50 70 90 110 130 150 170 190 210 230 250 270 290 310 330 350 370 390 410 430 450 "
-    ++ codes "470 490 510 530 550 570 590 610 630 650 670 690 710 730 750 770 790\">"
+text_start = codes "<text y=\"18\" textLength=\"800\" lengthAdjust=\"spacingAndGlyphs\">"
 
 abbrev pub row_letters : Bool → Bool → List Cell → List ℕ
 row_letters reveal tall cells =
@@ -223,7 +221,7 @@ gap_style = codes ".t .s{stroke-width:6;stroke-dasharray:0 1 8 1}"
 -- characters
 unfoldable pub text_style : List ℕ
 text_style = codes ".t text{font:24px Bedstead Extended,Bedstead,ui-monospace,Menlo,Consolas,DejaVu Sans Mono,monospace;"
-    ++ codes "text-anchor:middle;white-space:pre}.t tspan{fill:currentColor}"
+    ++ codes "white-space:pre}.t tspan{fill:currentColor}"
 
 -- the colours of Level 1
 unfoldable pub ink_style : List ℕ

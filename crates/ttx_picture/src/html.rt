@@ -1,6 +1,6 @@
 //! A View as an HTML page.
 
-ghost use Rattle.std.specs.Prelude.{◌≡◌, ◌++◌, [], None, OnOk, codes, string_bytes};
+ghost use Rattle.std.specs.Prelude.{◌≡◌, ◌++◌, [], None, OnOk, codes, string_bytes, true, false};
 ghost use Rattle.ttx_picture.specs.Svg.{style};
 ghost use Rattle.ttx_picture.specs.Html.{key_class, key_start, key_title, key_end, key_html, keys_html, html_start, page_style, key_style};
 ghost use Rattle.ttx_picture.specs.Html.{head_end, head_html, picture_html, nav_html, text_html, sheet, figure_html, html_of, coloured_link};
@@ -19,7 +19,7 @@ fn push_key_class(text: &mut String, colour: u8) -> Result<(), AllocError>
 }
 
 fn push_no_key(text: &mut String, colour: u8) -> Result<(), AllocError>
-    ensures { OnOk result (string_bytes text.new ≡ string_bytes text.old ++ key_html [] colour None) }
+    ensures { OnOk result (string_bytes text.new ≡ string_bytes text.old ++ key_html true [] colour None) }
 {
     text.push_str("<span")?;
     push_key_class(text, colour)?;
@@ -27,11 +27,19 @@ fn push_no_key(text: &mut String, colour: u8) -> Result<(), AllocError>
 }
 
 #[tactic(auto, unfolding(crate::specs::Html::key_start))]
-fn push_key_start(text: &mut String, colour: u8, target: &Target) -> Result<(), AllocError>
-    ensures { OnOk result (string_bytes text.new ≡ string_bytes text.old ++ key_start colour target.now) }
+fn push_key_start(
+    text: &mut String,
+    linked: bool,
+    colour: u8,
+    target: &Target,
+) -> Result<(), AllocError>
+    ensures { OnOk result (string_bytes text.new ≡ string_bytes text.old ++ key_start linked colour target.now) }
 {
     text.push_str("<a")?;
     push_key_class(text, colour)?;
+    if !linked {
+        return Ok(());
+    }
     text.push_str("\" href=\"#")?;
     push_target(text, target)
 }
@@ -58,38 +66,39 @@ fn push_key_end(text: &mut String, target: &Target) -> Result<(), AllocError>
 // Appends a link, with the name and in the colour of its key.
 fn push_key(
     text: &mut String,
+    linked: bool,
     name: &str,
     colour: u8,
     link: &Option<Target>,
 ) -> Result<(), AllocError>
-    ensures { OnOk result (string_bytes text.new ≡ string_bytes text.old ++ key_html name.now colour link.now) }
+    ensures { OnOk result (string_bytes text.new ≡ string_bytes text.old ++ key_html linked name.now colour link.now) }
 {
     match link {
         None => push_no_key(text, colour),
         Some(target) => {
-            push_key_start(text, colour, target)?;
+            push_key_start(text, linked, colour, target)?;
             push_key_title(text, name, target)?;
             push_key_end(text, target)
         }
     }
 }
 
-fn push_three_keys(text: &mut String, view: &View) -> Result<(), AllocError>
-    ensures { OnOk result (string_bytes text.new ≡ string_bytes text.old ++ key_html (codes "Red") 1 (coloured_link view.now 0)
-        ++ key_html (codes "Green") 2 (coloured_link view.now 1) ++ key_html (codes "Yellow") 3 (coloured_link view.now 2)) }
+fn push_three_keys(text: &mut String, linked: bool, view: &View) -> Result<(), AllocError>
+    ensures { OnOk result (string_bytes text.new ≡ string_bytes text.old ++ key_html linked (codes "Red") 1 (coloured_link view.now 0)
+        ++ key_html linked (codes "Green") 2 (coloured_link view.now 1) ++ key_html linked (codes "Yellow") 3 (coloured_link view.now 2)) }
 {
-    push_key(text, "Red", 1, &view.links[0])?;
-    push_key(text, "Green", 2, &view.links[1])?;
-    push_key(text, "Yellow", 3, &view.links[2])
+    push_key(text, linked, "Red", 1, &view.links[0])?;
+    push_key(text, linked, "Green", 2, &view.links[1])?;
+    push_key(text, linked, "Yellow", 3, &view.links[2])
 }
 
-fn push_keys(text: &mut String, view: &View) -> Result<(), AllocError>
-    ensures { OnOk result (string_bytes text.new ≡ string_bytes text.old ++ keys_html view.now) }
+fn push_keys(text: &mut String, linked: bool, view: &View) -> Result<(), AllocError>
+    ensures { OnOk result (string_bytes text.new ≡ string_bytes text.old ++ keys_html linked view.now) }
 {
-    push_three_keys(text, view)?;
-    push_key(text, "Cyan", 6, &view.links[3])?;
-    push_key(text, "Next", 7, &view.links[4])?;
-    push_key(text, "Index", 7, &view.links[5])
+    push_three_keys(text, linked, view)?;
+    push_key(text, linked, "Cyan", 6, &view.links[3])?;
+    push_key(text, linked, "Next", 7, &view.links[4])?;
+    push_key(text, linked, "Index", 7, &view.links[5])
 }
 
 #[tactic(auto, unfolding(crate::specs::Html::html_start))]
@@ -153,11 +162,11 @@ fn push_picture(text: &mut String, reveal: bool, view: &View) -> Result<(), Allo
     text.push_str("</svg>")
 }
 
-fn push_nav(text: &mut String, view: &View) -> Result<(), AllocError>
-    ensures { OnOk result (string_bytes text.new ≡ string_bytes text.old ++ nav_html view.now) }
+fn push_nav(text: &mut String, linked: bool, view: &View) -> Result<(), AllocError>
+    ensures { OnOk result (string_bytes text.new ≡ string_bytes text.old ++ nav_html linked view.now) }
 {
     text.push_str("<nav>")?;
-    push_keys(text, view)?;
+    push_keys(text, linked, view)?;
     text.push_str("</nav>")
 }
 
@@ -170,11 +179,11 @@ fn push_plain(text: &mut String, reveal: bool, view: &View) -> Result<(), AllocE
 }
 
 fn push_page(text: &mut String, reveal: bool, view: &View) -> Result<(), AllocError>
-    ensures { OnOk result (string_bytes text.new ≡ string_bytes text.old ++ head_html ++ picture_html reveal view.now ++ nav_html view.now) }
+    ensures { OnOk result (string_bytes text.new ≡ string_bytes text.old ++ head_html ++ picture_html reveal view.now ++ nav_html false view.now) }
 {
     push_head(text)?;
     push_picture(text, reveal, view)?;
-    push_nav(text, view)
+    push_nav(text, false, view)
 }
 
 /// Appends a View as an HTML page. Concealed characters are shown only if `reveal` is true.
@@ -203,6 +212,6 @@ pub fn push_figure(text: &mut String, reveal: bool, view: &View) -> Result<(), A
     ensures { OnOk result (string_bytes text.new ≡ string_bytes text.old ++ figure_html reveal view.now) }
 {
     push_picture(text, reveal, view)?;
-    push_nav(text, view)?;
+    push_nav(text, true, view)?;
     push_plain(text, reveal, view)
 }

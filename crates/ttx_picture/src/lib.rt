@@ -11,5 +11,6 @@ mod shown;
 mod svg;
 mod text;
 
+pub use escapes::push_escaped;
 pub use forms::{Form, push_picture};
 pub use html::{push_figure, push_sheet};

@@ -1,8 +1,11 @@
 //! A View as an SVG picture.
 
-ghost use Rattle.std.specs.Prelude.{◌≡◌, ◌<◌, ◌++◌, OnOk, string_bytes};
+ghost use Rattle.std.specs.Prelude.{◌≡◌, ◌<◌, ◌++◌, OnOk, false, string_bytes};
 ghost use Rattle.ttx_picture.specs.Svg.{group_start, row_ground, row_tall, row_glyphs, has_upper, is_upper, grounds_from, glyphs_from, pass};
-ghost use Rattle.ttx_picture.specs.Svg.{black_screen, body, svg_start, svg_of};
+ghost use Rattle.ttx_picture.specs.Svg.{black_screen, body, drawn, svg_start, svg_of};
+ghost use Rattle.ttx_picture.specs.declared.svg.pens.Layer.TheVariants.{Ground, Top, Middle, Bottom};
+ghost use Rattle.ttx_picture.specs.Bare.{is_mosaic, has_ground};
+ghost use Rattle.std.specs.List.{list_any};
 
 mod letters;
 mod pens;
@@ -10,11 +13,41 @@ mod strokes;
 mod styles;
 
 use letters::push_row_letters;
-use pens::Layer;
+use pens::{Layer, ground};
 use std::alloc::AllocError;
 use strokes::push_drawn;
 pub(crate) use styles::push_style;
-use ttx_render::{Cell, Part, View};
+use ttx_render::{Cell, Glyph, Part, View};
+
+fn is_mosaic(glyph: Glyph) -> bool
+    ensures { result ≡ is_mosaic glyph }
+{
+    matches!(glyph, Glyph::Mosaic { .. })
+}
+
+fn has_mosaics(cells: &[Cell]) -> bool
+    ensures { result ≡ list_any (λ c. is_mosaic c.glyph) cells.now }
+{
+    cells.iter().any(|cell| is_mosaic(cell.glyph))
+}
+
+// Appends the mosaics of a row. Most rows have none, and need no look at each block.
+fn push_mosaics(
+    text: &mut String,
+    reveal: bool,
+    tall: bool,
+    cells: &[Cell; 40],
+) -> Result<(), AllocError>
+    ensures { OnOk result (string_bytes text.new
+        ≡ string_bytes text.old ++ drawn reveal tall Top cells.now ++ drawn reveal tall Middle cells.now ++ drawn reveal tall Bottom cells.now) }
+{
+    if !has_mosaics(cells) {
+        return Ok(());
+    }
+    push_drawn(text, reveal, tall, Layer::Top, cells)?;
+    push_drawn(text, reveal, tall, Layer::Middle, cells)?;
+    push_drawn(text, reveal, tall, Layer::Bottom, cells)
+}
 
 // Appends the glyphs of a row in single or double height: mosaics, then characters.
 fn push_pass(
@@ -25,9 +58,7 @@ fn push_pass(
 ) -> Result<(), AllocError>
     ensures { OnOk result (string_bytes text.new ≡ string_bytes text.old ++ pass reveal tall cells.now) }
 {
-    push_drawn(text, reveal, tall, Layer::Top, cells)?;
-    push_drawn(text, reveal, tall, Layer::Middle, cells)?;
-    push_drawn(text, reveal, tall, Layer::Bottom, cells)?;
+    push_mosaics(text, reveal, tall, cells)?;
     push_row_letters(text, reveal, tall, cells)
 }
 
@@ -60,13 +91,35 @@ fn push_group_start(text: &mut String, number: usize) -> Result<(), AllocError>
     write!(text, "<g transform=\"translate(0 {top})")
 }
 
+fn has_ground(cell: &Cell) -> bool
+    ensures { result ≡ has_ground cell.now }
+{
+    ground(cell).is_some()
+}
+
+fn have_grounds(cells: &[Cell]) -> bool
+    ensures { result ≡ list_any has_ground cells.now }
+{
+    cells.iter().any(|cell| has_ground(cell))
+}
+
+// Appends the backgrounds of a row, if it has any.
+fn push_backgrounds(text: &mut String, cells: &[Cell; 40]) -> Result<(), AllocError>
+    ensures { OnOk result (string_bytes text.new ≡ string_bytes text.old ++ drawn false false Ground cells.now) }
+{
+    if !have_grounds(cells) {
+        return Ok(());
+    }
+    push_drawn(text, false, false, Layer::Ground, cells)
+}
+
 fn push_row_ground(text: &mut String, number: usize, cells: &[Cell; 40]) -> Result<(), AllocError>
     requires { number < 25 }
     ensures { OnOk result (string_bytes text.new ≡ string_bytes text.old ++ row_ground number cells.now) }
 {
     push_group_start(text, number)?;
     text.push_str("\">")?;
-    push_drawn(text, false, false, Layer::Ground, cells)?;
+    push_backgrounds(text, cells)?;
     text.push_str("</g>")
 }
 

@@ -93,10 +93,7 @@ fn push_letters(
     ensures { OnOk result (string_bytes text.new ≡ string_bytes text.old ++ letters reveal tall None cells.now) }
 {
     let mut current = None;
-    for (at, cell) in cells.iter().enumerate() {
-        if has_no_letters(reveal, tall, &cells[at..]) {
-            return push_span_end(text, current);
-        }
+    for cell in cells {
         let letter = letter_of(reveal, tall, cell);
         let pen = ink(cell, false);
         push_letter(text, current, letter, pen)?;
@@ -109,10 +106,7 @@ fn push_letters(
 fn push_text_start(text: &mut String) -> Result<(), AllocError>
     ensures { OnOk result (string_bytes text.new ≡ string_bytes text.old ++ text_start) }
 {
-    text.push_str(
-        "<text y=\"18\" x=\"10 30 50 70 90 110 130 150 170 190 210 230 250 270 290 310 330 350 370 390 410 430 450 470 490 \
-          510 530 550 570 590 610 630 650 670 690 710 730 750 770 790\">",
-    )
+    text.push_str("<text y=\"18\" textLength=\"800\" lengthAdjust=\"spacingAndGlyphs\">")
 }
 
 /// Appends the characters of a row that have this height.

@@ -27,7 +27,7 @@ fn push_text_style(text: &mut String) -> Result<(), AllocError>
 {
     text.push_str(
         ".t text{font:24px Bedstead Extended,Bedstead,ui-monospace,Menlo,Consolas,DejaVu Sans Mono,monospace;\
-          text-anchor:middle;white-space:pre}.t tspan{fill:currentColor}",
+          white-space:pre}.t tspan{fill:currentColor}",
     )
 }
 
