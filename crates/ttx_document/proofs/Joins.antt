@@ -1,6 +1,5 @@
 -- What is appended part after part.
-use Rattle.std.proofs.Common.{◌≡◌, ◌∙◌, ◌++◌, ℕ, List, Result, Ok, Err, OnOk, ap, if◌then◌else◌}
-use Rattle.std.specs.Prelude.{is_ok}
+use Rattle.std.proofs.Common.{◌≡◌, ◌∙◌, ◌++◌, ℕ, List, Result, Ok, Err, OnOk, ap}
 use Rattle.std.proofs.lemmas.List.{append_assoc}
 
 -- one more part
@@ -12,8 +11,3 @@ pub joined : {A E : Type 0} (r : Result A E) (old mid new a b : List ℕ) → mi
     OnOk r (new ≡ old ++ (a ++ b))
 joined (Ok x) old mid new a b e f = more old mid new a b e f
 joined (Err x) old mid new a b e f = tt
-
--- the clause of `push_str`
-pub pushed : {A E : Type 0} (r : Result A E) (old new a : List ℕ) → new ≡ (if is_ok r then old ++ a else old) → OnOk r (new ≡ old ++ a)
-pushed (Ok x) old new a e = e
-pushed (Err x) old new a e = tt

@@ -82,6 +82,13 @@ pub fn push_end(text: &mut String) -> Result<(), AllocError>
     text.push_str("</main></body></html>\n")
 }
 
+/// Appends words as they are.
+pub fn push_words(text: &mut String, words: &str) -> Result<(), AllocError>
+    ensures { OnOk result (string_bytes text.new ≡ string_bytes text.old ++ words.now) }
+{
+    text.push_str(words)
+}
+
 /// Appends a heading. `words` are HTML.
 #[tactic(auto, unfolding(crate::specs::Frames::heading_html))]
 pub fn push_heading(text: &mut String, words: &str) -> Result<(), AllocError>

@@ -5,4 +5,6 @@ mod escapes;
 mod frames;
 
 pub use escapes::push_escaped;
-pub use frames::{push_body, push_end, push_heading, push_paragraph, push_start, push_style};
+pub use frames::{
+    push_body, push_end, push_heading, push_paragraph, push_start, push_style, push_words,
+};
