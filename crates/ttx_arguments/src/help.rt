@@ -875,5 +875,5 @@ pub(crate) const STRICT_OPTION: &str = "End with status 1 if there is a warning"
 
 pub(crate) const JSON_OPTION: &str = "Write each line as a JSON object with the same values";
 
-pub(crate) const PARTIAL_OPTION: &str =
-    "Leave out pages that no service can have, with a line for each";
+pub(crate) const PARTIAL_OPTION: &str = "Leave out pages that no service can have, with a line
+for each";
