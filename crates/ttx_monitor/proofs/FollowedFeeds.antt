@@ -1,5 +1,5 @@
 -- A feed that is followed by one slot more.
-use Rattle.std.proofs.Common.{◌≡◌, ◌⊎◌, ℕ, ◌+◌, ◌-◌, ◌^◌, ◌<◌, ◌≤◌, min, Bool, true, false, if◌then◌else◌, ◌||◌, List, [], ◌∷◌, ◌++◌, length, take, Option, Some, None, Err, refl, sym, ap, ◌∙◌, subst, inl, inr, arith}
+use Rattle.std.proofs.Common.{◌≡◌, ◌⊎◌, ℕ, ◌+◌, ◌-◌, ◌^◌, ◌<◌, ◌≤◌, min, Bool, true, false, if◌then◌else◌, ◌||◌, ◌&&◌, not, List, [], ◌∷◌, ◌++◌, length, take, Option, Some, None, Err, refl, sym, ap, ◌∙◌, subst, inl, inr, arith}
 use Rattle.std.proofs.Common.{append_assoc, append-nil}
 use Rattle.std.specs.Option.{is_some}
 use Rattle.std.specs.Io.KnownBytes.{Appends, Keeps}
@@ -11,8 +11,9 @@ use Rattle.ttx_monitor.specs.Breaches.{IsHeard}
 use Rattle.ttx_monitor.specs.Standing.{Stands}
 use Rattle.ttx_monitor.specs.Waiting.{IsLeft}
 use Rattle.ttx_monitor.specs.Events.{moved, since, IsWalk}
+use Rattle.ttx_monitor.specs.Feeds.{HearsAll}
 use Rattle.ttx_monitor.specs.Stepping.{IsNext}
-use Rattle.ttx_monitor.specs.Tallies.{nothing_yet, added, tally_of, is_bad, bad_of}
+use Rattle.ttx_monitor.specs.Tallies.{nothing_yet, added, tally_of, is_bad, bad_of, is_last}
 use Rattle.ttx_monitor.specs.EventLines.{Telling, event_text, told_text}
 use Rattle.ttx_monitor.specs.Followed.{WritesEvent, CountsFollowed, IsEnd, IsClean, IsFollowed, IsStopped, IsUnwritten, IsCutOff, Follows}
 use Rattle.ttx_monitor.specs.declared.ahead.Ahead.{Ahead}
@@ -27,7 +28,7 @@ use Rattle.ttx_monitor.specs.declared.tally.Tally.{Tally}
 use Rattle.ttx_packet.specs.Laws.{RowsAreNumbered}
 use Rattle.ttx_page.specs.Laws.{EachSlotTurns, StreamsMove}
 use Rattle.ttx_counter.specs.Streaks.{StreaksDecide}
-use Rattle.ttx_monitor.proofs.HeardMore.{nothing_within}
+use Rattle.ttx_monitor.proofs.HeardMore.{HeardSo, nothing_within, so_ending}
 use Rattle.ttx_monitor.proofs.HeardFeeds.{file_more}
 
 tally_more : (t : Tally) (events : List Event) (e : Event) → tally_of t (events ++ e ∷ []) ≡ added (tally_of t events) e
@@ -53,6 +54,18 @@ unbad true e = absurd (omega arith)
 fine_of : (e : Event) → bad_of e ≡ 0 → (e.shift ≡ None) × (e.breach ≡ None)
 fine_of e h = fine e.shift e.breach (unbad (is_bad e) h)
 
+last_one : (all bad : Bool) → (not all && bad) ≡ true → (all ≡ false) × (bad ≡ true)
+last_one true bad h = cc
+last_one false bad h = (refl, h)
+
+not_last : (all bad : Bool) → all ≡ false → (not all && bad) ≡ false → bad ≡ false
+not_last true bad one h = cc
+not_last false bad one h = h
+
+good_of : (b : Bool) → b ≡ false → ◌≡◌ {A = ℕ} (if b then 1 else 0) 0
+good_of false e = refl
+good_of true e = cc
+
 pub record FollowedSo (w : Watched) (bytes : List ℕ) (g : Telling) (f : Following) (remaining old new : Option (List ℕ)) (count : ℕ) : Type 0 where
   pub at : Watched
   pub slots : List (List ℕ)
@@ -64,7 +77,8 @@ pub record FollowedSo (w : Watched) (bytes : List ℕ) (g : Telling) (f : Follow
   pub walk : (more : List Event) (tail : List ℕ) → IsWalk at slots left more tail → IsWalk w [] bytes (events ++ more) tail
   pub out : Appends old new (told_text g nothing_yet events)
   pub tally : f.tally ≡ tally_of nothing_yet events
-  pub clean : f.tally.breaches ≡ 0 → (at ≡ w) × (bytes ≡ file_of slots ++ left) × IsWithin w slots
+  pub none : g.all ≡ false → f.tally.breaches ≡ 0
+  pub clean : f.tally.breaches ≡ 0 → (at ≡ w) × (bytes ≡ file_of slots ++ left) × IsWithin w slots × (length slots ≡ length events)
 
 module _ (w : Watched) (bytes : List ℕ) (g : Telling) (f : Following) (remaining old new : Option (List ℕ)) (count : ℕ)
     (h : FollowedSo w bytes g f remaining old new count) where
@@ -80,10 +94,12 @@ module _ (w : Watched) (bytes : List ℕ) (g : Telling) (f : Following) (remaini
     ended = ended;
     tally = same ∙ h.tally;
     out = h.out;
+    none = λ one. subst (λ t. t.breaches ≡ 0) (sym same) (h.none one);
     clean = λ none.
         let c = h.clean (subst (λ t. t.breaches ≡ 0) same none) in
         record {
           slots = h.slots;
+          size = c.3;
           same = c.1;
           stands = subst (λ v. Stands after.monitor v h.slots) c.0 stands;
           within = c.2;
@@ -131,21 +147,40 @@ module _ (w : Watched) (bytes : List ℕ) (g : Telling) (f : Following) (remaini
     so_fault T after newest (Feed NoMemory) out = so_cut_off newest out
     so_fault T after newest (Write written) out = so_unwritten newest written out.0 out.1
 
-    pub so_stopped : (newest : Option (List ℕ)) → Appends new newest (event_text g f.tally e) → g.all ≡ false → is_bad e ≡ true →
-        IsStopped w bytes g old newest f.tally.slots e
-    so_stopped newest out one bad = record {
+    -- the slots before are heard as those of a feed that stays within the rule
+    heard_before : f.tally.breaches ≡ 0 → HeardSo w bytes f.monitor f.ahead remaining count
+    heard_before none = let c = h.clean none in record {
+      feed = h.slots;
+      rest = h.left;
+      size = c.3 ∙ h.size;
+      same = c.1;
+      stands = subst (λ v. Stands f.monitor v h.slots) c.0 h.stands;
+      within = c.2;
+      left = h.waits;
+    }
+
+    pub so_stopped : (after : Following) (newest : Option (List ℕ)) → after.monitor ≡ m → after.tally ≡ added f.tally e →
+        Appends new newest (event_text g f.tally e) → is_last g.all e ≡ true → IsStopped w bytes g after old newest count e
+    unfolding heard_before
+    so_stopped after newest is_m counted out last = let one = last_one g.all (is_bad e) last in record {
       events = h.events;
       left = next.after;
       walk = walked_to;
       out = out_more newest out;
-      one = one;
-      bad = bad;
-      slot_is = ap (λ t. t.slots) h.tally;
+      one = one.0;
+      bad = one.1;
+      first = subst (λ t. t.breaches ≡ 0) h.tally (h.none one.0);
+      slot_is = sym h.size;
+      tally = counted ∙ ap (λ t. added t e) h.tally ∙ sym (tally_more nothing_yet h.events e);
+      heard = λ heard ending.
+          let none = h.none one.0 in
+          let here = subst (λ v. IsNext v h.slots h.left m a left e) (h.clean none).0 next in
+          subst (λ z. HearsAll w bytes z heard) (sym is_m) (so_ending w bytes f.monitor f.ahead remaining count (heard_before none) m a left e here heard ending);
     }
 
     pub so_on : (after : Following) (newest : Option (List ℕ)) → after.monitor ≡ m → after.ahead ≡ a → after.tally ≡ added f.tally e →
-        Appends new newest (event_text g f.tally e) → FollowedSo w bytes g after left old newest (count + 1)
-    so_on after newest is_m is_a counted out = record {
+        Appends new newest (event_text g f.tally e) → is_last g.all e ≡ false → FollowedSo w bytes g after left old newest (count + 1)
+    so_on after newest is_m is_a counted out goes_on = record {
       at = moved h.at (length h.slots) e.shift;
       slots = since h.slots e.shift ++ next.slot ∷ [];
       left = next.after;
@@ -156,6 +191,8 @@ module _ (w : Watched) (bytes : List ℕ) (g : Telling) (f : Following) (remaini
       walk = walked_on;
       out = out_more newest out;
       tally = counted ∙ ap (λ t. added t e) h.tally ∙ sym (tally_more nothing_yet h.events e);
+      none = λ one. subst (λ t. t.breaches ≡ 0) (sym counted)
+          (let before = h.none one in let here = good_of (is_bad e) (not_last g.all (is_bad e) one goes_on) in omega arith);
       clean = λ none.
           let z : min (f.tally.breaches + bad_of e) (2 ^ 64 - 1) ≡ 0 = sym (ap (λ t. t.breaches) counted) ∙ none in
           let c = h.clean (omega arith) in
@@ -168,6 +205,8 @@ module _ (w : Watched) (bytes : List ℕ) (g : Telling) (f : Following) (remaini
             subst (λ s. moved h.at (length h.slots) s ≡ w) (sym both.0) c.0,
             subst (λ s. bytes ≡ file_of (since h.slots s ++ next.slot ∷ []) ++ next.after) (sym both.0) same,
             subst (λ s. IsWithin w (since h.slots s ++ next.slot ∷ [])) (sym both.0) within,
+            subst (λ s. length (since h.slots s ++ next.slot ∷ []) ≡ length (h.events ++ e ∷ [])) (sym both.0)
+                (length_push h.slots next.slot ∙ ap (λ n. n + 1) c.3 ∙ sym (length_push h.events e)),
           );
     }
 
@@ -192,5 +231,6 @@ none_followed numbers turns move decide w bytes g f remaining out stands left no
   walk = λ more tail h. h;
   out = Appends-nil out;
   tally = none;
-  clean = λ _. (refl, refl, nothing_within numbers turns move decide w f.monitor stands);
+  none = λ _. ap (λ t. t.breaches) none;
+  clean = λ _. (refl, refl, nothing_within numbers turns move decide w f.monitor stands, refl);
 }

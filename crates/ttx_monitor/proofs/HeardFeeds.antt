@@ -8,8 +8,12 @@ use Rattle.ttx_cycle.specs.Files.{file_of}
 use Rattle.ttx_files.specs.Feeds.{IsRead}
 use Rattle.ttx_monitor.specs.Waiting.{waiting, IsBehind, IsLeft}
 use Rattle.ttx_monitor.specs.FirstPeriods.{IsFirstPeriod}
-use Rattle.ttx_monitor.specs.FeedVerdicts.{StartsAt, BeginsAt}
+use Rattle.ttx_monitor.specs.FeedVerdicts.{IsFoundIn, StartsAt, BeginsAt, start_of, IsVerdictOf, IsFeedVerdict}
+use Rattle.ttx_page.specs.Pages.{Page}
+use Rattle.ttx_witness.specs.Coverage.{Certificate}
 use Rattle.ttx_monitor.specs.declared.ahead.Ahead.{Ahead}
+use Rattle.ttx_monitor.specs.declared.verdict.FeedVerdict.{FeedVerdict}
+use Rattle.ttx_monitor.specs.declared.verdict.FeedVerdict.TheVariants.{Unlike, Yes, No, Shifted}
 use Rattle.ttx_monitor.specs.declared.hearing.Heard.{Heard}
 use Rattle.ttx_files.specs.declared.faults.FeedFault.{FeedFault}
 
@@ -78,3 +82,12 @@ if_heard P Q (Err e) f p = p
 pub if_known : (P Q : List ℕ → Type 0) (o : Option (List ℕ)) → ((x : List ℕ) → P x → Q x) → IfSome o P → IfSome o Q
 if_known P Q None f p = tt
 if_known P Q (Some x) f p = f x p
+
+-- the verdict on a feed of packets
+pub judged : (cycle : List (List ℕ)) (pages : List Page) (c : Certificate) (named : Option ℕ) (bytes : List ℕ) (verdict : FeedVerdict) →
+    IsFoundIn cycle bytes None → BeginsAt cycle bytes named (start_of verdict) → IsVerdictOf cycle pages c bytes verdict →
+    IsFeedVerdict cycle pages c named bytes verdict
+judged cycle pages c named bytes (Unlike unlike) found begins is = absurd is
+judged cycle pages c named bytes (Yes start slots wrong streak rest) found begins is = (found, begins, is)
+judged cycle pages c named bytes (No start slot breach) found begins is = (found, begins, is)
+judged cycle pages c named bytes (Shifted start slot by count) found begins is = (found, begins, is)

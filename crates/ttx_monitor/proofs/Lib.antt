@@ -13,3 +13,4 @@ mod MisfitCounts
 mod WaitingSlots
 mod SteppedFeeds
 mod FollowedFeeds
+mod ReportedFeeds

@@ -69,6 +69,24 @@ over a remaining bytes l none enough rest is = elim enough as (λ _. (rest < 42)
     go None some b e = absurd (both_ways _ refl some)
     go (Some n) some b e = ((let c = b.0 in omega arith), (let c = b.1 in let d = size in omega arith))
 
+-- the first slot that waits is passed
+pub passed_left : (a passed : Ahead) (remaining : Option (List ℕ)) (bytes slot : List ℕ) → IsLeft a remaining bytes → BeginsWith slot a →
+    ((slot : List ℕ) (more : List (List ℕ)) → waiting a ≡ slot ∷ more → waiting passed ≡ more) → passed.end ≡ a.end →
+    (after : List ℕ) × (bytes ≡ slot ++ after) × IsLeft passed remaining after
+passed_left a passed remaining bytes slot l b passes end = (
+  file_of b.0 ++ l.behind,
+  l.same ∙ ap (λ s. file_of s ++ l.behind) b.1 ∙ append_assoc slot (file_of b.0) l.behind,
+  record {
+    behind = l.behind;
+    same = ap (λ s. file_of s ++ l.behind) (sym (passes slot b.0 b.1));
+    each = λ n d lt.
+        let gone = passes slot b.0 b.1 in
+        let c = ap length gone in
+        subst IsSlot (ap (λ s. get_or s n d) (sym gone)) (subst (All IsSlot) b.1 l.each (suc n) d (omega arith));
+    is_behind = subst (λ o. IsBehind o remaining l.behind) (sym end) l.is_behind;
+  },
+)
+
 -- the first slot that waits is heard at its place
 module _ (w : Watched) (slots : List (List ℕ)) (bytes slot : List ℕ) (old : Monitor) (a : Ahead) (remaining : Option (List ℕ)) (shift : Option ℕ)
     (p : IsPlacedFor w slots bytes slot old a remaining shift) where
@@ -76,13 +94,12 @@ module _ (w : Watched) (slots : List (List ℕ)) (bytes slot : List ℕ) (old : 
       ((slot : List ℕ) (more : List (List ℕ)) → waiting a ≡ slot ∷ more → waiting passed ≡ more) → passed.end ≡ a.end →
       IsHeardAs (moved w (length slots) shift) (since slots shift) slot shift new e → IsNext w slots bytes new passed remaining e
   next_heard is_slot new passed e passes end h =
-      let l = p.left in
-      let b = p.begins in
+      let left = passed_left a passed remaining bytes slot p.left p.begins passes end in
       let back = sym h.shift_is in
       record {
         slot = slot;
-        after = file_of b.0 ++ l.behind;
-        same = l.same ∙ ap (λ s. file_of s ++ l.behind) b.1 ∙ append_assoc slot (file_of b.0) l.behind;
+        after = left.0;
+        same = left.1;
         is_slot = is_slot;
         event = record {
           shift = subst (λ s. IsShift w (length slots) bytes slot s) back p.told;
@@ -92,13 +109,5 @@ module _ (w : Watched) (slots : List (List ℕ)) (bytes slot : List ℕ) (old : 
           streak = subst (λ s. IsMostWrong (moved w (length slots) s) (since slots s ++ slot ∷ []) e.streak) back h.streak;
         };
         stands = subst (λ s. Stands new (moved w (length slots) s) (since slots s ++ slot ∷ [])) back h.stands;
-        left = record {
-          behind = l.behind;
-          same = ap (λ s. file_of s ++ l.behind) (sym (passes slot b.0 b.1));
-          each = λ n d lt.
-              let gone = passes slot b.0 b.1 in
-              let c = ap length gone in
-              subst IsSlot (ap (λ s. get_or s n d) (sym gone)) (subst (All IsSlot) b.1 l.each (suc n) d (omega arith));
-          is_behind = subst (λ o. IsBehind o remaining l.behind) (sym end) l.is_behind;
-        };
+        left = left.2;
       }

@@ -1,11 +1,13 @@
 -- The lines that are written while a feed is heard, and after it (profile).
 --
---   Telling                 how they are told: each breach or not, the pages, the slots of the cycle, and after how many slots the state
+--   Telling                 how they are told: each breach or not, the pages, the slots of the cycle, the one with which the feed begins,
+--                           the slots of a field, and after how many slots the state
 --   shift_line, breach_line a slip; a breach
 --   is_due, state_line      whether the state is told after so many slots; its line
 --   event_text, told_text   what is written for one slot; for several
---   broken_text, total_text the line of a feed that breaks the rule; the last line, with what happens in a minute
+--   no_text, breaches_text, broken_text     the line of a feed that breaks the rule
 --   a_minute                a count of a feed of so many slots, for 3,000 fields
+--   all_text, minute_text, total_text       the last line, with what happens in a minute
 use Rattle.std.specs.Prelude.{◌≡◌, ℕ, ◌+◌, ◌*◌, ◌/◌, ◌%◌, ◌-◌, ◌^◌, min, max, Bool, true, false, ◌==◌, if◌then◌else◌, List, [], ◌∷◌, ◌++◌, codes, Option, Some, None}
 use Rattle.std.specs.Fmt.{decimal}
 use Rattle.ttx_page.specs.Pages.{Page}
@@ -19,6 +21,8 @@ pub record Telling : Type 0 where
   pub all : Bool
   pub pages : List Page
   pub count : ℕ
+  pub start : ℕ
+  pub lines : ℕ
   pub span : Option ℕ
 
 abbrev pub shift_line : ℕ → ℕ → Option ℕ → List ℕ
@@ -51,15 +55,24 @@ abbrev pub told_text : Telling → Tally → List Event → List ℕ
 told_text g t [] = []
 told_text g t (e ∷ events) = event_text g t e ++ told_text g (added t e) events
 
+abbrev pub no_text : ℕ → ℕ → List ℕ
+no_text start slots = codes "no start " ++ decimal start ++ codes " slots " ++ decimal slots
+
+abbrev pub breaches_text : Tally → List ℕ
+breaches_text t =
+    codes " wrong " ++ decimal t.wrong ++ codes " streak " ++ decimal t.streak ++ codes " breaches " ++ decimal t.breaches ++ 10 ∷ []
+
 abbrev pub broken_text : ℕ → Tally → List ℕ
-broken_text start t =
-    codes "no start " ++ decimal start ++ codes " slots " ++ decimal t.slots ++ codes " wrong " ++ decimal t.wrong ++ codes " streak "
-    ++ decimal t.streak ++ codes " breaches " ++ decimal t.breaches ++ 10 ∷ []
+broken_text start t = no_text start t.slots ++ breaches_text t
 
 abbrev pub a_minute : ℕ → ℕ → ℕ → ℕ
 a_minute count slots lines = if slots == 0 then 0 else min (count * (3000 * lines) / slots) (2 ^ 64 - 1)
 
+abbrev pub all_text : ℕ → ℕ → List ℕ
+all_text lost bits = codes "total lost " ++ decimal lost ++ codes " bits " ++ decimal bits
+
+abbrev pub minute_text : ℕ → ℕ → List ℕ
+minute_text lost bits = codes " minute lost " ++ decimal lost ++ codes " bits " ++ decimal bits ++ 10 ∷ []
+
 abbrev pub total_text : ℕ → Tally → List ℕ
-total_text lines t =
-    codes "total lost " ++ decimal t.lost ++ codes " bits " ++ decimal t.bits ++ codes " minute lost " ++ decimal (a_minute t.lost t.slots lines)
-    ++ codes " bits " ++ decimal (a_minute t.bits t.slots lines) ++ 10 ∷ []
+total_text lines t = all_text t.lost t.bits ++ minute_text (a_minute t.lost t.slots lines) (a_minute t.bits t.slots lines)

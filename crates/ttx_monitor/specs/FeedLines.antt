@@ -13,12 +13,13 @@ use Rattle.std.specs.Fmt.{decimal}
 use Rattle.ttx_digits.specs.PageIds.{id_text}
 use Rattle.ttx_page.specs.Pages.{Page}
 use Rattle.ttx_witness.specs.Coverage.{Certificate}
+use Rattle.ttx_recognition.specs.Lines.{unlike_line}
 use Rattle.ttx_monitor.specs.FeedVerdicts.{IsFeedVerdict}
 use Rattle.ttx_monitor.specs.declared.breach.TextByte.{TextByte}
 use Rattle.ttx_monitor.specs.declared.breach.Breach.{Breach}
 use Rattle.ttx_monitor.specs.declared.breach.Breach.TheVariants.{Unasked, Lost, Bits, Repeated}
 use Rattle.ttx_monitor.specs.declared.verdict.FeedVerdict.{FeedVerdict}
-use Rattle.ttx_monitor.specs.declared.verdict.FeedVerdict.TheVariants.{Yes, No, Shifted}
+use Rattle.ttx_monitor.specs.declared.verdict.FeedVerdict.TheVariants.{Unlike, Yes, No, Shifted}
 
 abbrev pub start_text : ℕ → List ℕ
 start_text start = codes " start " ++ decimal start ++ 10 ∷ []
@@ -63,6 +64,7 @@ abbrev pub shifted_text : ℕ → ℕ → ℕ → List ℕ
 shifted_text count slot by = slipped_text slot ++ shift_text count by
 
 abbrev pub feed_text : List Page → FeedVerdict → List ℕ
+feed_text pages (Unlike unlike) = unlike_line unlike
 feed_text pages (Yes start slots wrong streak rest) = yes_text start slots wrong streak ++ rest_text rest
 feed_text pages (No start slot breach) = way_text pages slot breach ++ start_text start
 feed_text pages (Shifted start slot by count) = shifted_text count slot by ++ start_text start

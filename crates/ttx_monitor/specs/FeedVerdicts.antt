@@ -1,5 +1,6 @@
 -- What is said of a feed (profile).
 --
+--   IsFoundIn               what its first period, or what there is of it, is recognised as
 --   BeginsAt                the slot of the cycle with which the feed begins: the one that is named, or the one that is found
 --   IsHeardWhole            the feed is within the error rule; what is counted of it, and who sees each page
 --   start_of, IsVerdictOf   the start that a verdict names, and what it says
@@ -9,6 +10,8 @@ use Rattle.std.specs.Prelude.{◌≡◌, ◌⊎◌, ℕ, ◌-◌, ◌^◌, ◌<�
 use Rattle.ttx_page.specs.Pages.{Page}
 use Rattle.ttx_cycle.specs.Files.{file_of}
 use Rattle.ttx_witness.specs.Coverage.{Certificate, Accepts, limit}
+use Rattle.ttx_recognition.specs.Recognition.{judged, IsRecognised}
+use Rattle.ttx_recognition.specs.declared.form.Unlike as recognition
 use Rattle.ttx_monitor.specs.Watching.{watched, IsWithin}
 use Rattle.ttx_monitor.specs.Feeds.{IsBroken, IsSlipped}
 use Rattle.ttx_monitor.specs.FirstPeriods.{IsFirstPeriod}
@@ -16,7 +19,10 @@ use Rattle.ttx_monitor.specs.Laws.{IsSeenIn}
 use Rattle.ttx_monitor.specs.Starting.{IsBestStart}
 use Rattle.ttx_monitor.specs.Totals.{wrong_bytes, IsLongestStreak}
 use Rattle.ttx_monitor.specs.declared.verdict.FeedVerdict.{FeedVerdict}
-use Rattle.ttx_monitor.specs.declared.verdict.FeedVerdict.TheVariants.{Yes, No, Shifted}
+use Rattle.ttx_monitor.specs.declared.verdict.FeedVerdict.TheVariants.{Unlike, Yes, No, Shifted}
+
+abbrev pub IsFoundIn : List (List ℕ) → List ℕ → Option recognition.Unlike → Type 0
+IsFoundIn cycle bytes found = (head : List (List ℕ)) × IsFirstPeriod cycle bytes head × IsRecognised (judged (file_of head)) found
 
 -- by the first slots of the feed
 abbrev pub StartsAt : List (List ℕ) → List (List ℕ) → Option ℕ → ℕ → Type 0
@@ -42,18 +48,20 @@ pub record IsHeardWhole (cycle : List (List ℕ)) (pages : List Page) (c : Certi
   pub seen : Accepts cycle pages c → limit c ≤ length feed → IsSeenIn (watched cycle pages c.repeat start) feed c
 
 abbrev pub start_of : FeedVerdict → ℕ
+start_of (Unlike unlike) = 0
 start_of (Yes start slots wrong streak rest) = start
 start_of (No start slot breach) = start
 start_of (Shifted start slot by count) = start
 
--- what is said, for the start that it names
+-- what is said of a feed of packets, for the start that it names
 abbrev pub IsVerdictOf : List (List ℕ) → List Page → Certificate → List ℕ → FeedVerdict → Type 0
+IsVerdictOf cycle pages c bytes (Unlike unlike) = ⊥
 IsVerdictOf cycle pages c bytes (Yes start slots wrong streak rest) = IsHeardWhole cycle pages c bytes start slots wrong streak rest
 IsVerdictOf cycle pages c bytes (No start slot breach) = IsBroken (watched cycle pages c.repeat start) bytes slot breach
 IsVerdictOf cycle pages c bytes (Shifted start slot by count) =
     IsSlipped (watched cycle pages c.repeat start) bytes slot by × (count ≡ length cycle)
 
-pub record IsFeedVerdict (cycle : List (List ℕ)) (pages : List Page) (c : Certificate) (named : Option ℕ) (bytes : List ℕ) (verdict : FeedVerdict)
-    : Type 0 where
-  pub begins : BeginsAt cycle bytes named (start_of verdict)
-  pub is : IsVerdictOf cycle pages c bytes verdict
+abbrev pub IsFeedVerdict : List (List ℕ) → List Page → Certificate → Option ℕ → List ℕ → FeedVerdict → Type 0
+IsFeedVerdict cycle pages c named bytes (Unlike unlike) = IsFoundIn cycle bytes (Some unlike)
+IsFeedVerdict cycle pages c named bytes verdict =
+    IsFoundIn cycle bytes None × BeginsAt cycle bytes named (start_of verdict) × IsVerdictOf cycle pages c bytes verdict

@@ -14,6 +14,7 @@ use Rattle.ttx_cycle.specs.Files.{file_of}
 use Rattle.ttx_monitor.specs.Watching.{Watched, IsWithin}
 use Rattle.ttx_monitor.specs.Standing.{Stands}
 use Rattle.ttx_monitor.specs.Events.{IsWalk}
+use Rattle.ttx_monitor.specs.Feeds.{IsEnding, HearsAll}
 use Rattle.ttx_monitor.specs.Tallies.{nothing_yet, tally_of, is_bad}
 use Rattle.ttx_monitor.specs.EventLines.{Telling, event_text, told_text}
 use Rattle.ttx_monitor.specs.declared.event.Event.{Event}
@@ -23,10 +24,12 @@ use Rattle.ttx_monitor.specs.declared.following.FollowFault.{FollowFault}
 use Rattle.ttx_monitor.specs.declared.following.FollowFault.TheVariants as follow
 use Rattle.ttx_monitor.specs.declared.following.Followed.{Followed}
 use Rattle.ttx_monitor.specs.declared.following.Followed.TheVariants.{End, Stopped}
+use Rattle.ttx_monitor.specs.declared.hearing.Heard.{Heard}
 use Rattle.ttx_files.specs.declared.faults.FeedFault.TheVariants.{Read, NoMemory}
 
 abbrev pub telling_of : How → Telling
-telling_of h = record { all = h.all; pages = map page_of h.pages.now; count = h.count; span = h.span }
+telling_of h =
+    record { all = h.all; pages = map page_of h.pages.now; count = h.count; start = h.start; lines = h.lines; span = h.span }
 
 abbrev pub WritesEvent : {T : Type 0} → List ℕ → Option (List ℕ) → Option (List ℕ) → Result T FollowFault → Type 0
 WritesEvent text old new (Ok _) = Appends old new text
@@ -47,8 +50,9 @@ abbrev pub IsEnd : ℕ → List ℕ → List Event → Type 0
 IsEnd rest left events = ((rest < 42) × (length left ≡ rest)) ⊎ (2 ^ 64 - 1 ≤ length events)
 
 -- if no slot breaks the rule, these are the slots of the feed
-pub record IsClean (w : Watched) (bytes left : List ℕ) (f : Following) : Type 0 where
+pub record IsClean (w : Watched) (bytes left : List ℕ) (events : List Event) (f : Following) : Type 0 where
   pub slots : List (List ℕ)
+  pub size : length slots ≡ length events
   pub same : bytes ≡ file_of slots ++ left
   pub stands : Stands f.monitor w slots
   pub within : IsWithin w slots
@@ -60,16 +64,20 @@ pub record IsFollowed (w : Watched) (bytes : List ℕ) (g : Telling) (f : Follow
   pub ended : IsEnd rest left events
   pub tally : f.tally ≡ tally_of nothing_yet events
   pub out : Appends old new (told_text g nothing_yet events)
-  pub clean : f.tally.breaches ≡ 0 → IsClean w bytes left f
+  pub none : g.all ≡ false → f.tally.breaches ≡ 0
+  pub clean : f.tally.breaches ≡ 0 → IsClean w bytes left events f
 
-pub record IsStopped (w : Watched) (bytes : List ℕ) (g : Telling) (old new : Option (List ℕ)) (slot : ℕ) (e : Event) : Type 0 where
+pub record IsStopped (w : Watched) (bytes : List ℕ) (g : Telling) (f : Following) (old new : Option (List ℕ)) (slot : ℕ) (e : Event) : Type 0 where
   pub events : List Event
   pub left : List ℕ
   pub walk : IsWalk w [] bytes (events ++ e ∷ []) left
   pub out : Appends old new (told_text g nothing_yet (events ++ e ∷ []))
   pub one : g.all ≡ false
   pub bad : is_bad e ≡ true
-  pub slot_is : slot ≡ (tally_of nothing_yet events).slots
+  pub first : (tally_of nothing_yet events).breaches ≡ 0
+  pub slot_is : slot ≡ length events
+  pub tally : f.tally ≡ tally_of nothing_yet (events ++ e ∷ [])
+  pub heard : (heard : Heard) → IsEnding slot e heard → HearsAll w bytes f.monitor heard
 
 pub record IsUnwritten (w : Watched) (bytes : List ℕ) (g : Telling) (old new : Option (List ℕ)) (written : ℕ) : Type 0 where
   pub events : List Event
@@ -87,6 +95,6 @@ pub record IsCutOff (w : Watched) (bytes : List ℕ) (g : Telling) (old new : Op
 
 abbrev pub Follows : Watched → List ℕ → Telling → Following → Option (List ℕ) → Option (List ℕ) → Result Followed FollowFault → Type 0
 Follows w bytes g f old new (Ok (End rest)) = IsFollowed w bytes g f old new rest
-Follows w bytes g f old new (Ok (Stopped slot e)) = IsStopped w bytes g old new slot e
+Follows w bytes g f old new (Ok (Stopped slot e)) = IsStopped w bytes g f old new slot e
 Follows w bytes g f old new (Err (follow.Write written)) = IsUnwritten w bytes g old new written
 Follows w bytes g f old new (Err (follow.Feed fault)) = IsCutOff w bytes g old new

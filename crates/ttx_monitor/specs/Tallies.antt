@@ -3,8 +3,9 @@
 --   capped                  a count, which stops at 2^64 - 1
 --   lost_of                 1 for a packet that was lost
 --   is_bad, bad_of          a slot that breaks the rule, or at which the feed has slipped; 1 for it
+--   is_last                 such a slot ends the hearing, where not each one is told
 --   nothing_yet, added, tally_of    before the first slot; after one more; after several
-use Rattle.std.specs.Prelude.{◌≡◌, ℕ, ◌+◌, ◌-◌, ◌^◌, min, max, Bool, true, ◌||◌, if◌then◌else◌, List, [], ◌∷◌, Option, Some, None, is_some}
+use Rattle.std.specs.Prelude.{◌≡◌, ℕ, ◌+◌, ◌-◌, ◌^◌, min, max, Bool, true, ◌||◌, ◌&&◌, not, if◌then◌else◌, List, [], ◌∷◌, Option, Some, None, is_some}
 use Rattle.ttx_monitor.specs.declared.breach.Breach.{Breach}
 use Rattle.ttx_monitor.specs.declared.breach.Breach.TheVariants.{Lost}
 use Rattle.ttx_monitor.specs.declared.event.Event.{Event}
@@ -22,6 +23,9 @@ is_bad e = is_some e.shift || is_some e.breach
 
 abbrev pub bad_of : Event → ℕ
 bad_of e = if is_bad e then 1 else 0
+
+abbrev pub is_last : Bool → Event → Bool
+is_last all e = not all && is_bad e
 
 abbrev pub nothing_yet : Tally
 nothing_yet = record { slots = 0; wrong = 0; bits = 0; lost = 0; breaches = 0; streak = 0 }

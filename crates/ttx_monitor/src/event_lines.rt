@@ -13,13 +13,15 @@ use std::alloc::{AllocError, Global};
 use ttx_page::Page;
 use ttx_witness::NoMemory;
 
-/// How a feed is told while it is heard: each breach or none; by the pages of the service and the number of slots of the cycle; and its state
-/// after so many slots, again and again, if it is.
+/// How a feed is reported while it is heard: each breach or none; by the pages of the service, the number of slots of the cycle, the slot of
+/// the cycle with which the feed begins, and the slots of a field; and its state after so many slots, again and again, if at all.
 #[derive(Clone, Copy)]
 pub struct How<'a> {
     pub all: bool,
     pub pages: &'a [Page],
     pub count: usize,
+    pub start: u32,
+    pub lines: u8,
     pub span: Option<u64>,
 }
 

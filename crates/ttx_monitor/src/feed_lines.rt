@@ -9,6 +9,7 @@ use crate::verdict::FeedVerdict;
 use std::alloc::{AllocError, Global};
 use ttx_digits::push_id;
 use ttx_page::Page;
+use ttx_recognition::push_unlike;
 use ttx_witness::NoMemory;
 
 // Appends where the feed begins, and the end of the line.
@@ -18,8 +19,8 @@ fn push_start(text: &mut String, start: u32) -> Result<(), AllocError>
     write!(text, " start {start}\n")
 }
 
-// Appends the line for the bytes behind the last slot, if there are any.
-fn push_rest(text: &mut String, rest: usize) -> Result<(), AllocError>
+/// Appends the line for the bytes behind the last slot, if there are any.
+pub fn push_rest(text: &mut String, rest: usize) -> Result<(), AllocError>
     ensures { OnOk result (string_bytes text.new ≡ string_bytes text.old ++ rest_text rest) }
 {
     match rest {
@@ -121,11 +122,16 @@ pub fn push_shifted(text: &mut String, count: usize, slot: u64, by: usize) -> Re
     push_shift(text, count, by)
 }
 
-// Appends the text of a verdict.
-fn push_verdict(text: &mut String, pages: &[Page], verdict: FeedVerdict) -> Result<(), AllocError>
+/// Appends the text of a verdict.
+pub fn push_verdict(
+    text: &mut String,
+    pages: &[Page],
+    verdict: FeedVerdict,
+) -> Result<(), AllocError>
     ensures { OnOk result (string_bytes text.new ≡ string_bytes text.old ++ feed_text (map page_of pages.now) verdict) }
 {
     match verdict {
+        FeedVerdict::Unlike(unlike) => push_unlike(text, unlike),
         FeedVerdict::Yes {
             start,
             slots,
@@ -158,7 +164,8 @@ fn push_verdict(text: &mut String, pages: &[Page], verdict: FeedVerdict) -> Resu
 
 /// The text of a verdict on a feed: `yes start S slots N wrong B streak K`, and a line for the bytes behind the last slot; or `no slot I` and
 /// how the slot breaks the rule (`byte X` with two wrong bits, `lost`, `unlike` for something in the place of an empty line), or
-/// `no repeat PAGE ITEM byte X slot I`, or `no slot I shifted by J`, each with the start. Each line ends with the byte 0A. `Err` if memory runs out.
+/// `no repeat PAGE ITEM byte X slot I`, or `no slot I shifted by J`, each with the start; or `no slots: ..`, what the bytes are that are no
+/// packets of 42 bytes. Each line ends with the byte 0A. `Err` if memory runs out.
 pub fn feed_text(alloc: Global, pages: &[Page], verdict: FeedVerdict) -> Result<String, NoMemory>
     ensures { IfOk result (λ text. string_bytes text ≡ feed_text (map page_of pages.now) verdict) }
 {

@@ -14,7 +14,7 @@ use crate::event::Event;
 use crate::event_lines::{How, event_text};
 use crate::monitor::Monitor;
 use crate::stepping::{Step, hear_next};
-use crate::tally::{Tally, added, is_bad};
+use crate::tally::{Tally, added, is_last};
 use std::alloc::Global;
 use std::io::{Read, Write};
 use ttx_cycle::{Counted, WriteFault, write_bytes};
@@ -88,7 +88,7 @@ pub fn follow<R: Read, W: Write>(
     ttx_page::laws::each_slot_turns();
     ttx_page::laws::streams_move();
     ttx_counter::laws::streaks_decide();
-    for _i in 0..u64::MAX {
+    for slot in 0..u64::MAX {
         let next = match hear_next(&mut following.monitor, &mut following.ahead, feed) {
             Ok(next) => next,
             Err(fault) => return Err(FollowFault::Feed(fault)),
@@ -101,9 +101,8 @@ pub fn follow<R: Read, W: Write>(
             Ok(()) => {}
             Err(fault) => return Err(fault),
         }
-        let slot = following.tally.slots;
         following.tally = added(following.tally, &event);
-        if is_bad(&event) && !how.all {
+        if is_last(how.all, &event) {
             return Ok(Followed::Stopped { slot, event });
         }
     }

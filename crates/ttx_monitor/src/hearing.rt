@@ -17,20 +17,18 @@ ghost use Rattle.ttx_monitor.specs.Watching.{Watched, watched};
 ghost use Rattle.ttx_monitor.specs.Standing.{Stands};
 ghost use Rattle.ttx_monitor.specs.Waiting.{IsLeft};
 ghost use Rattle.ttx_monitor.specs.Feeds.{IsEnding, HearsAll};
-ghost use Rattle.ttx_monitor.specs.FeedVerdicts.{start_of, StartsAt, IsVerdictOf, IsFeedVerdict};
+ghost use Rattle.ttx_monitor.specs.FeedVerdicts.{start_of, IsVerdictOf, IsFeedVerdict};
 
 use crate::ahead::Ahead;
+use crate::beginning::begin;
 use crate::breach::Breach;
 use crate::event::Event;
 use crate::monitor::Monitor;
-use crate::starting::find_start;
 use crate::stepping::{Step, hear_next};
 use crate::verdict::FeedVerdict;
 use std::alloc::Global;
 use std::io::Read;
-use ttx_cycle::arrays::are_slots;
-use ttx_cycle::{Counted, Cycle};
-use ttx_files::feeds::read_head;
+use ttx_cycle::Counted;
 use ttx_files::{FeedFault, Inputs};
 
 /// How the hearing of a feed ends: at its end, with so many bytes behind the last slot; at the first breach; or where the feed has slipped
@@ -43,7 +41,7 @@ pub enum Heard {
 }
 
 // How the hearing ends with what is made of this slot, if it does.
-fn ending(slot: u64, event: &Event) -> Option<Heard>
+pub(crate) fn ending(slot: u64, event: &Event) -> Option<Heard>
     ensures { MatchOption result ((event.now.shift ≡ None) × (event.now.breach ≡ None)) (IsEnding slot event.now) }
 {
     match event.shift {
@@ -83,19 +81,8 @@ fn hear_all<R: Read>(
     Ok(Heard::End { rest: 0 })
 }
 
-// The slot of the cycle with which the feed begins: the one that is named, or the one that is found.
-fn start_in(cycle: &Cycle, named: Option<u32>, head: &[[u8; 42]]) -> u32
-    requires few { length head.now ≤ 65536 }
-    ensures { StartsAt (slots_of cycle.now) head.now named result }
-{
-    match named {
-        Some(start) => start,
-        None => find_start(cycle, head),
-    }
-}
-
 // What is said of a feed that was heard.
-fn verdict_of(monitor: &Monitor<'_>, start: u32, heard: Heard) -> FeedVerdict
+pub(crate) fn verdict_of(monitor: &Monitor<'_>, start: u32, heard: Heard) -> FeedVerdict
     ensures start { start_of result ≡ start }
     ensures is { (cycle : List (List ℕ)) (pages : List Page) (c : coverage.Certificate) (bytes : List ℕ) → IsCycle cycle → ArePages pages →
         coverage.IsCertificate c → HearsAll (watched cycle pages c.repeat start) bytes monitor.now heard → IsVerdictOf cycle pages c bytes result }
@@ -136,14 +123,11 @@ pub(crate) fn watch<R: Read>(
         (failed_at result) }
 {
     ttx_witness::certificate_laws::certificates_keep_their_rules();
-    let (cycle, service) = (&inputs.cycle, &inputs.service);
-    let head = read_head(alloc, feed, cycle.slots().len())?;
-    are_slots(head.slots.as_slice());
-    let start = start_in(cycle, named, head.slots.as_slice());
-    let Ok(mut monitor) = Monitor::new(alloc, cycle, service, &inputs.certificate, start) else {
-        return Err(FeedFault::NoMemory);
-    };
-    let mut ahead = Ahead::new(head);
-    let heard = hear_all(&mut monitor, &mut ahead, feed)?;
-    Ok(verdict_of(&monitor, start, heard))
+    let mut begun = begin(alloc, inputs, named, feed)?;
+    if let Some(unlike) = begun.found {
+        return Ok(FeedVerdict::Unlike(unlike));
+    }
+    let following = &mut begun.following;
+    let heard = hear_all(&mut following.monitor, &mut following.ahead, feed)?;
+    Ok(verdict_of(&begun.following.monitor, begun.start, heard))
 }

@@ -1,7 +1,7 @@
 //! What has been counted of a feed.
 
 ghost use Rattle.std.specs.Prelude.{◌≡◌, ◌+◌, ℕ};
-ghost use Rattle.ttx_monitor.specs.Tallies.{capped, lost_of, bad_of, is_bad, added};
+ghost use Rattle.ttx_monitor.specs.Tallies.{capped, lost_of, bad_of, is_bad, is_last, nothing_yet, added};
 
 use crate::breach::Breach;
 use crate::event::Event;
@@ -35,8 +35,8 @@ fn lost_of(breach: Option<Breach>) -> u16
     }
 }
 
-/// Whether a slot breaks the rule, or the feed has slipped at it.
-pub fn is_bad(event: &Event) -> bool
+// Whether a slot breaks the rule, or the feed has slipped at it.
+fn is_bad(event: &Event) -> bool
     ensures { result ≡ is_bad event.now }
 {
     event.shift.is_some() || event.breach.is_some()
@@ -47,6 +47,27 @@ fn bad_of(event: &Event) -> u16
     ensures { result ≡ bad_of event.now }
 {
     if is_bad(event) { 1 } else { 0 }
+}
+
+/// Whether a slot ends the hearing: it is bad, and not each such slot is reported.
+pub fn is_last(all: bool, event: &Event) -> bool
+    ensures { result ≡ is_last all event.now }
+{
+    !all && is_bad(event)
+}
+
+/// What has been counted before the first slot.
+pub fn nothing_yet() -> Tally
+    ensures { result ≡ nothing_yet }
+{
+    Tally {
+        slots: 0,
+        wrong: 0,
+        bits: 0,
+        lost: 0,
+        breaches: 0,
+        streak: 0,
+    }
 }
 
 /// What has been counted after one more slot.

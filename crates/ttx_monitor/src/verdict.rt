@@ -1,10 +1,13 @@
 //! What a monitor says of a feed.
 
 use crate::breach::Breach;
+use ttx_recognition::Unlike;
 
 /// Whether a feed stays within the error rule. `start` is the slot of the cycle with which it begins.
 #[derive(Clone, Copy)]
 pub enum FeedVerdict {
+    /// It is no feed of packets of 42 bytes.
+    Unlike(Unlike),
     /// It does, with so many slots and so many wrong bytes, of which a text byte was wrong in `streak` successive transmissions at most;
     /// `rest` bytes follow the last slot.
     Yes {
