@@ -16,12 +16,13 @@ use Rattle.ttx_files.specs.declared.faults.FilesFault.TheVariants.{Write, NoMemo
 use Rattle.ttx_files.specs.declared.told.Told.{Told}
 use Rattle.ttx_monitor.specs.FeedLines.{IsFeedTold}
 use Rattle.ttx_monitor.specs.declared.verdict.FeedVerdict.{FeedVerdict}
-use Rattle.ttx_monitor.specs.declared.verdict.FeedVerdict.TheVariants.{Yes, No, Shifted}
+use Rattle.ttx_monitor.specs.declared.verdict.FeedVerdict.TheVariants.{Unlike, Yes, No, Shifted}
 use Rattle.ttx_source.specs.Services.{ServiceFields, pages_of}
 use Rattle.ttx_tool.specs.declared.faults.ToolFault.{ToolFault}
 use Rattle.ttx_tool.specs.declared.faults.ToolFault.TheVariants.{Files, Feed}
 
 abbrev pub feed_status : FeedVerdict → ℕ
+feed_status (Unlike unlike) = 1
 feed_status (Yes start slots wrong streak rest) = 0
 feed_status (No start slot breach) = 1
 feed_status (Shifted start slot by count) = 1

@@ -17,12 +17,13 @@ use ttx_cycle::Counted;
 use ttx_files::{FeedFault, FilesFault, Inputs, Told, read_inputs};
 use ttx_monitor::{FeedVerdict, monitor_feed};
 
-fn feed_status(verdict: FeedVerdict) -> u8
+/// 0 for a yes, 1 for a no.
+pub(super) fn feed_status(verdict: FeedVerdict) -> u8
     ensures { result ≡ feed_status verdict }
 {
     match verdict {
         FeedVerdict::Yes { .. } => 0,
-        FeedVerdict::No { .. } | FeedVerdict::Shifted { .. } => 1,
+        FeedVerdict::Unlike(_) | FeedVerdict::No { .. } | FeedVerdict::Shifted { .. } => 1,
     }
 }
 
