@@ -1,8 +1,8 @@
 -- The devices of a command that reads its inputs, of which one is refused.
-use Rattle.std.proofs.Common.{List, [], ◌∷◌, ◌++◌, map, Option, Some, None, inl, inr}
-use Rattle.ttx_files.proofs.Failures.{stopped}
-use Rattle.ttx_files.specs.Devices.{Place, Device, IsAmong, IsFirstFailure}
-use Rattle.ttx_tool.specs.Devices.{failed_in, place_of, IsFaultOf}
+use Rattle.std.proofs.Common.{List, [], ◌∷◌, ◌++◌, map, Option, Some, None, Result, Ok, Err, inl, inr}
+use Rattle.ttx_files.proofs.Failures.{stopped, gone_on}
+use Rattle.ttx_files.specs.Devices.{Place, Device, AllRight, IsAmong, IsFirstFailure}
+use Rattle.ttx_tool.specs.Devices.{failed_in, place_of, IsFaultOf, Fails}
 use Rattle.ttx_tool.specs.declared.faults.ToolFault.{ToolFault}
 
 module _ (es : List Device) where
@@ -15,3 +15,14 @@ module _ (es : List Device) where
 -- the devices after the fault were not called
 pub refused : (ds es : List Device) (fault : ToolFault) → IsFaultOf ds fault → IsFirstFailure es None → IsFaultOf (ds ++ es) fault
 refused ds es fault h e = (stopped ds es (failed_in fault) h.0 e, among_first es ds (place_of fault) h.1)
+
+among_last : (ds es : List Device) (place : Option Place) → IsAmong (map (λ d. d.place) es) place → IsAmong (map (λ d. d.place) (ds ++ es)) place
+among_last [] es place h = h
+among_last (d ∷ ds) es None h = tt
+among_last (d ∷ ds) es (Some place) h = inr (among_last ds es (Some place) h)
+
+-- the devices before it answered well
+pub went_on : {T : Type 0} (ds es : List Device) (result : Result T ToolFault) → IsFirstFailure ds None → AllRight ds → Fails es result →
+    Fails (ds ++ es) result
+went_on ds es (Ok x) h right e = gone_on ds es None h right e
+went_on ds es (Err fault) h right e = (gone_on ds es (failed_in fault) h right e.0, among_last ds es (place_of fault) e.1)

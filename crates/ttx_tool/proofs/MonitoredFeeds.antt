@@ -1,5 +1,5 @@
 -- What is told of a feed once the three files are read.
-use Rattle.std.proofs.Common.{ℕ, List, Option, Some, None, Result, Ok, Err}
+use Rattle.std.proofs.Common.{ℕ, List, Option, Some, None, Result, Ok, Err, inr}
 use Rattle.std.specs.Prelude.{IfSome}
 use Rattle.ttx_cycle.specs.Cycles.{slots_of}
 use Rattle.ttx_certificate.specs.Certificates.{fields_of}
@@ -7,6 +7,11 @@ use Rattle.ttx_files.specs.Inputs.{ReadsInputs}
 use Rattle.ttx_files.specs.declared.faults.FilesFault.TheVariants.{Cycle, Service, Certificate, Read, TooLong, Write, NoMemory}
 use Rattle.ttx_files.specs.declared.readers.Inputs.{Inputs}
 use Rattle.ttx_files.specs.declared.told.Told.{Told}
+use Rattle.ttx_source.specs.Services.{pages_of}
+use Rattle.ttx_witness.specs.Certificates.{certificate_of}
+use Rattle.ttx_monitor.specs.FeedReports.{ReportsFeed}
+use Rattle.ttx_monitor.specs.declared.asked.Asked.{Asked}
+use Rattle.ttx_tool.specs.MonitorReports.{IsReportedAs, MonitorsLines}
 use Rattle.ttx_tool.specs.Monitor.{IsTelling, TellsFeed, IsFaultOfFeed, MonitorsText}
 use Rattle.ttx_tool.specs.declared.faults.ToolFault.{ToolFault}
 use Rattle.ttx_tool.specs.declared.faults.ToolFault.TheVariants.{Files, Plan, Class, Same, Counter, Feed}
@@ -46,3 +51,14 @@ module _ (inputs : Inputs) (named : Option ℕ) where
   monitored_of result (Some a) (Some b) None d read is own = tt
   monitored_of result (Some a) None c d read is own = tt
   monitored_of result None b c d read is own = tt
+
+module _ (inputs : Inputs) (asked : Asked) (old new : Option (List ℕ)) (result : Result ℕ ToolFault) where
+  pub lines_of : (a b c d : Option (List ℕ)) → IfSome a (λ x. IfSome b (λ y. IfSome c (λ z. ReadsInputs x y z (Ok inputs)))) →
+      IfSome d (λ u. IsReportedAs (ReportsFeed (slots_of inputs.cycle) (pages_of inputs.service) (certificate_of inputs.certificate) asked u old new) result) →
+      IfSome a (λ x. IfSome b (λ y. IfSome c (λ z. IfSome d (λ u. MonitorsLines x y z asked u old new result))))
+  lines_of (Some a) (Some b) (Some c) (Some d) read is =
+      inr (slots_of inputs.cycle, inputs.service, fields_of inputs.certificate, read.0, read.1, read.2, is)
+  lines_of (Some a) (Some b) (Some c) None read is = tt
+  lines_of (Some a) (Some b) None d read is = tt
+  lines_of (Some a) None c d read is = tt
+  lines_of None b c d read is = tt

@@ -17,6 +17,7 @@ pub mod Refute
 pub mod UnlikeViews
 pub mod Replay
 pub mod Monitor
+pub mod MonitorReports
 pub mod Reports
 pub mod PlannedFiles
 pub mod PlanLaws

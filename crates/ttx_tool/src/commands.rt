@@ -13,6 +13,7 @@ pub mod find;
 pub mod find_deadline;
 pub mod inspect;
 pub mod monitor;
+pub mod monitor_reports;
 pub mod pages;
 pub mod plan;
 pub mod plan_spread;

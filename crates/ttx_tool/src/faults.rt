@@ -20,7 +20,8 @@ pub enum CounterFileFault {
 #[derive(Clone, Copy)]
 pub enum ToolFault {
     /// 1 to 7. A file isn't read or written, or a growth was refused. After `Write` exactly the first `written` bytes of all that a
-    /// command writes went out; where it writes a file, the file's bytes come before those of the output.
+    /// command writes went out; where it writes a file, the file's bytes come before those of the output. Where lines are written while a
+    /// feed comes, `written` counts the bytes of the latest lines.
     Files(FilesFault),
     /// 8. There is no plan.
     Plan(PlanFault),

@@ -1,0 +1,86 @@
+//! `monitor --all` and `monitor --every`: what a receiver got of a cycle, reported while it comes.
+
+ghost use Rattle.std.specs.Prelude.{◌≡◌, ◌∷◌, [], IfSome};
+ghost use Rattle.ttx_cycle.specs.Counters.{inner_of, faults_of};
+ghost use Rattle.ttx_cycle.specs.Cycles.{slots_of};
+ghost use Rattle.ttx_files.specs.Devices.{AtCycle, AtService, AtCertificate, AtFeed, input, output};
+ghost use Rattle.ttx_monitor.specs.FeedReports.{ReportsFeed};
+ghost use Rattle.ttx_source.specs.Services.{pages_of};
+ghost use Rattle.ttx_witness.specs.Certificates.{certificate_of};
+ghost use Rattle.ttx_tool.specs.Devices.{Fails};
+ghost use Rattle.ttx_tool.specs.MonitorReports.{report_status, IsReportedAs, MonitorsLines};
+
+use super::monitor::feed_status;
+use crate::faults::ToolFault;
+use std::alloc::Global;
+use std::io::{Read, Write};
+use ttx_cycle::Counted;
+use ttx_files::{FeedFault, FilesFault, Inputs, read_inputs};
+use ttx_monitor::{Asked, FeedVerdict, FollowFault, report_feed};
+
+fn report_status(verdict: Option<FeedVerdict>) -> u8
+    ensures { result ≡ report_status verdict }
+{
+    match verdict {
+        Some(verdict) => feed_status(verdict),
+        None => 1,
+    }
+}
+
+// Reports a feed, and answers the status.
+fn report<R: Read, W: Write>(
+    alloc: Global,
+    inputs: &Inputs,
+    asked: Asked,
+    feed: &mut Counted<R>,
+    writer: &mut Counted<W>,
+) -> Result<u8, ToolFault>
+    ensures bytes { IfSome (R.remaining (inner_of feed.old)) (λ bytes.
+        IsReportedAs (ReportsFeed (slots_of inputs.now.cycle) (pages_of inputs.now.service) (certificate_of inputs.now.certificate) asked bytes
+        (W.contents (inner_of writer.old)) (W.contents (inner_of writer.new))) result) }
+    ensures faults { Fails (input AtFeed (R.remaining (inner_of feed.old)) (faults_of feed.old) (faults_of feed.new)
+        ∷ output (faults_of writer.old) (faults_of writer.new) ∷ []) result }
+{
+    match report_feed(alloc, inputs, asked, feed, writer) {
+        Ok(verdict) => Ok(report_status(verdict)),
+        Err(FollowFault::Feed(FeedFault::Read)) => Err(ToolFault::Feed),
+        Err(FollowFault::Feed(FeedFault::NoMemory)) => Err(ToolFault::Files(FilesFault::NoMemory)),
+        Err(FollowFault::Write { written }) => {
+            Err(ToolFault::Files(FilesFault::Write { written }))
+        }
+    }
+}
+
+/// Reads a packet file, the text of a service and that of a certificate, in this order, and then a feed slot by slot, which begins with the
+/// slot of the cycle that is named, or with the one that is found. Reports the feed while it comes: each breach if `asked.all` says so,
+/// otherwise up to the first; and the state after each so many fields. At the end of the feed it writes the verdict, or how many breaches
+/// there were. The status is 0 if there is none, otherwise 1.
+///
+/// Nothing is written before the three files are read. After `Write` all earlier lines and exactly the first `written` bytes of the latest
+/// lines went out. `Feed` says that a read of the feed failed: all lines for the slots before it went out.
+pub fn run<A: Read, B: Read, C: Read, R: Read, W: Write>(
+    alloc: Global,
+    cycle: &mut Counted<A>,
+    service: &mut Counted<B>,
+    certificate: &mut Counted<C>,
+    asked: Asked,
+    feed: &mut Counted<R>,
+    writer: &mut Counted<W>,
+) -> Result<u8, ToolFault>
+    ensures bytes { IfSome (A.remaining (inner_of cycle.old)) (λ a.
+        IfSome (B.remaining (inner_of service.old)) (λ b.
+        IfSome (C.remaining (inner_of certificate.old)) (λ c.
+        IfSome (R.remaining (inner_of feed.old)) (λ d.
+        MonitorsLines a b c asked d (W.contents (inner_of writer.old)) (W.contents (inner_of writer.new)) result)))) }
+    ensures faults { Fails (input AtCycle (A.remaining (inner_of cycle.old)) (faults_of cycle.old) (faults_of cycle.new)
+        ∷ input AtService (B.remaining (inner_of service.old)) (faults_of service.old) (faults_of service.new)
+        ∷ input AtCertificate (C.remaining (inner_of certificate.old)) (faults_of certificate.old) (faults_of certificate.new)
+        ∷ input AtFeed (R.remaining (inner_of feed.old)) (faults_of feed.old) (faults_of feed.new)
+        ∷ output (faults_of writer.old) (faults_of writer.new) ∷ []) result }
+{
+    let inputs = match read_inputs(alloc, cycle, service, certificate) {
+        Ok(inputs) => inputs,
+        Err(fault) => return Err(ToolFault::Files(fault)),
+    };
+    report(alloc, &inputs, asked, feed, writer)
+}
