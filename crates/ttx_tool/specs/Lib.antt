@@ -1,4 +1,5 @@
 pub mod Devices
+pub mod Diagnosis
 pub mod Answers
 pub mod Certify
 pub mod Texts

@@ -8,6 +8,7 @@ pub mod certify;
 pub mod certify_numbers;
 pub mod certify_within;
 pub mod check;
+pub mod diagnosis;
 pub mod extract;
 pub mod find;
 pub mod find_deadline;

@@ -1,0 +1,49 @@
+//! What is said of bytes that are no packets of 42 bytes, behind the lines of `pages`, `show`, `book` and `extract`.
+
+ghost use Rattle.std.specs.Prelude.{◌≡◌, ◌∷◌, [], ◌++◌, IfOk, string_bytes};
+ghost use Rattle.ttx_cycle.specs.Counters.{inner_of, faults_of};
+ghost use Rattle.ttx_files.specs.Answers.{IsUntouched};
+ghost use Rattle.ttx_files.specs.Devices.{output};
+ghost use Rattle.ttx_recognition.specs.Lines.{unlike_line};
+ghost use Rattle.ttx_tool.specs.Devices.{is_tool_write, Fails};
+ghost use Rattle.ttx_tool.specs.Diagnosis.{Diagnoses};
+
+use super::reports::write_text;
+use crate::faults::ToolFault;
+use std::alloc::{AllocError, Global};
+use std::io::Write;
+use ttx_cycle::Counted;
+use ttx_files::FilesFault;
+use ttx_recognition::{Unlike, push_unlike, recognise};
+
+// The line.
+fn unlike_line(alloc: Global, unlike: Unlike) -> Result<String, AllocError>
+    ensures { IfOk result (λ text. string_bytes text ≡ unlike_line unlike) }
+{
+    let mut text = String::new(alloc);
+    push_unlike(&mut text, unlike)?;
+    Ok(text)
+}
+
+/// Writes what the first bytes of a packet file are if they are no packets of 42 bytes, and answers the status 1; otherwise nothing, and the
+/// status that is given.
+///
+/// At `Write` exactly the first `written` bytes of the line went out; at each other fault the writer is as it was.
+pub fn run<W: Write>(
+    alloc: Global,
+    bytes: &[u8],
+    status: u8,
+    writer: &mut Counted<W>,
+) -> Result<u8, ToolFault>
+    ensures bytes { Diagnoses bytes.now status (W.contents (inner_of writer.old)) (W.contents (inner_of writer.new)) result }
+    ensures faults { Fails (output (faults_of writer.old) (faults_of writer.new) ∷ []) result }
+    ensures untouched { IsUntouched is_tool_write result writer.old writer.new }
+{
+    let Some(unlike) = recognise(bytes) else {
+        return Ok(status);
+    };
+    let Ok(line) = unlike_line(alloc, unlike) else {
+        return Err(ToolFault::Files(FilesFault::NoMemory));
+    };
+    write_text(writer, line.as_str(), 1)
+}
