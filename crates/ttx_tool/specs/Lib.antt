@@ -27,3 +27,4 @@ pub mod WaitNumbers
 pub mod Send
 pub mod Beginnings
 pub mod Version
+pub mod Explain
