@@ -11,7 +11,7 @@ mod services;
 mod splices;
 mod zones;
 
-use crate::reports::{not_built, status_of};
+use crate::reports::status_of;
 use std::io;
 use ttx_arguments::Order;
 use ttx_cycle::Counted;
@@ -55,24 +55,15 @@ pub fn run_order(rt: &HostRuntime, order: &Order<'_>) -> Outcome {
             selection,
             look,
         } => screens::preview(rt, service, selection, look),
-        Order::PreviewAll { .. } => Ok(not_built(rt)),
         Order::Splice(order) => splices::splice(rt, order),
         Order::Wait(order) => certificates::wait(rt, order),
         Order::Send(order) => sends::send(rt, order),
-        Order::Air(_) | Order::AirReplay(_) | Order::Report(_) => Ok(not_built(rt)),
-        Order::Compose { .. } | Order::Decompose { .. } => Ok(not_built(rt)),
         Order::Explain { reason } => Ok(status_of(rt, explain(rt, reason))),
         Order::Monitor(order) => feeds::monitor(rt, order),
         Order::Pages { cycle, json } => cycles::pages(rt, cycle, *json),
         Order::Book { cycle, out } => cycles::book(rt, cycle, out),
-        Order::Extract { partial: true, .. } => Ok(not_built(rt)),
-        Order::Extract {
-            cycle,
-            out,
-            lines,
-            ..
-        } => cycles::extract(rt, cycle, out, lines.count()),
-        Order::Check(order) => services::check(rt, order),
+        Order::Extract { cycle, out, lines } => cycles::extract(rt, cycle, out, lines.count()),
+        Order::Check { service } => services::check(rt, service),
         Order::Version => Ok(status_of(rt, version(rt))),
     }
 }

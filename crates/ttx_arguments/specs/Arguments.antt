@@ -61,30 +61,11 @@ id_of argument.Twice = codes "twice"
 id_of argument.Reveal = codes "reveal"
 id_of argument.Items = codes "items"
 id_of argument.Force = codes "force"
-id_of argument.Author = codes "author"
-id_of argument.Composed = codes "out"
-id_of argument.Decomposed = codes "out"
-id_of argument.SomePage = codes "page"
-id_of argument.Reported = codes "out"
 id_of argument.Reason = codes "reason"
-id_of argument.Watched = codes "service"
-id_of argument.AirAt = codes "at"
-id_of argument.AirFields = codes "fields"
-id_of argument.AirLog = codes "log"
-id_of argument.ReplayLog = codes "replay"
 id_of argument.Every = codes "every"
-id_of argument.ReplayForm = codes "as"
-id_of argument.Date = codes "date"
-id_of argument.AirLate = codes "late"
-id_of argument.AtOnce = codes "at-once"
-id_of argument.Long = codes "long"
-id_of argument.Strict = codes "strict"
 id_of argument.Json = codes "json"
-id_of argument.PreviewAll = codes "all"
 id_of argument.MonitorAll = codes "all"
 id_of argument.CertifyAll = codes "all"
-id_of argument.Rows = codes "rows"
-id_of argument.Partial = codes "partial"
 
 -- Ranges of numbers are inclusive.
 abbrev pub takes_of : Argument → Takes
@@ -116,27 +97,13 @@ takes_of argument.Twice = takes.Nothing
 takes_of argument.Reveal = takes.Nothing
 takes_of argument.Items = takes.Nothing
 takes_of argument.Force = takes.Nothing
-takes_of argument.SomePage = takes.Optional
-takes_of argument.AirAt = takes.Text
-takes_of argument.AirFields = takes.Number 0 4294967295
-takes_of argument.AirLog = takes.Text
-takes_of argument.ReplayLog = takes.Text
 takes_of argument.Every = takes.Number 1 1000000
-takes_of argument.ReplayForm = takes.ReplayForm
-takes_of argument.Date = takes.Text
-takes_of argument.AirLate = takes.Nothing
-takes_of argument.AtOnce = takes.Nothing
-takes_of argument.Long = takes.Nothing
-takes_of argument.Strict = takes.Nothing
 takes_of argument.Json = takes.Nothing
-takes_of argument.PreviewAll = takes.Nothing
 takes_of argument.MonitorAll = takes.Nothing
 takes_of argument.CertifyAll = takes.Nothing
-takes_of argument.Rows = takes.Nothing
-takes_of argument.Partial = takes.Nothing
 takes_of _ = takes.Operand
 
--- of operands only those that `takes_of` calls optional need not be there
+-- an operand always has to be there
 abbrev pub is_needed : Argument → Bool
 is_needed argument.NeededLines = true
 is_needed argument.Fields = true
@@ -150,7 +117,6 @@ is_input argument.Service = true
 is_input argument.Certificate = true
 is_input argument.Counter = true
 is_input argument.Feed = true
-is_input argument.Author = true
 is_input argument.Old = true
 is_input argument.New = true
 is_input argument.OldService = true
@@ -178,10 +144,6 @@ name_of command.Book = codes "book"
 name_of command.Extract = codes "extract"
 name_of command.Check = codes "check"
 name_of command.Version = codes "version"
-name_of command.Air = codes "air"
-name_of command.Compose = codes "compose"
-name_of command.Decompose = codes "decompose"
-name_of command.Report = codes "report"
 name_of command.Explain = codes "explain"
 
 abbrev pub arguments_of : CommandName → List Argument
@@ -191,33 +153,27 @@ arguments_of command.Find =
     argument.Cycle ∷ argument.Service ∷ argument.Found ∷ argument.Repeat ∷ argument.Class ∷ argument.Deadline ∷ argument.Within ∷ []
 arguments_of command.Certify =
     argument.Cycle ∷ argument.Service ∷ argument.Certificate ∷ argument.Late ∷ argument.Numbers ∷ argument.Twice ∷ argument.Within
-    ∷ argument.CertifyAll ∷ argument.Json ∷ []
-arguments_of command.Refute = argument.Cycle ∷ argument.Service ∷ argument.Certificate ∷ argument.Save ∷ argument.Json ∷ []
-arguments_of command.Replay = argument.Cycle ∷ argument.Service ∷ argument.Counter ∷ argument.ReplayForm ∷ []
+    ∷ argument.CertifyAll ∷ []
+arguments_of command.Refute = argument.Cycle ∷ argument.Service ∷ argument.Certificate ∷ argument.Save ∷ []
+arguments_of command.Replay = argument.Cycle ∷ argument.Service ∷ argument.Counter ∷ []
 arguments_of command.Receive = argument.Cycle ∷ argument.Page ∷ argument.Lines ∷ argument.Start ∷ argument.Slots ∷ argument.Kind ∷ []
 arguments_of command.Show =
     argument.Cycle ∷ argument.Page ∷ argument.Lines ∷ argument.Start ∷ argument.Slots ∷ argument.Kind ∷ argument.Form ∷ argument.Reveal ∷ []
-arguments_of command.Preview = argument.Service ∷ argument.SomePage ∷ argument.PreviewAll ∷ argument.Form ∷ argument.Reveal ∷ []
+arguments_of command.Preview = argument.Service ∷ argument.Page ∷ argument.Form ∷ argument.Reveal ∷ []
 arguments_of command.Splice =
     argument.Old ∷ argument.New ∷ argument.OldService ∷ argument.NewService ∷ argument.OldCertificate ∷ argument.NewCertificate ∷ argument.Sent ∷ argument.SplicedLate ∷ []
 arguments_of command.Wait =
-    argument.Cycle ∷ argument.Service ∷ argument.Repeat ∷ argument.Class ∷ argument.Items ∷ argument.WaitNumbers ∷ argument.Json ∷ []
+    argument.Cycle ∷ argument.Service ∷ argument.Repeat ∷ argument.Class ∷ argument.Items ∷ argument.WaitNumbers ∷ []
 arguments_of command.Send =
     argument.Cycle ∷ argument.At ∷ argument.Fields ∷ argument.NeededLines ∷ argument.Phase ∷ argument.Offset ∷ argument.Zone ∷ argument.Force ∷ []
 arguments_of command.Monitor =
     argument.Cycle ∷ argument.Service ∷ argument.Certificate ∷ argument.Feed ∷ argument.FeedStart ∷ argument.MonitorAll
-    ∷ argument.Every ∷ argument.Rows ∷ argument.Json ∷ []
+    ∷ argument.Every ∷ []
 arguments_of command.Pages = argument.Cycle ∷ argument.Json ∷ []
 arguments_of command.Book = argument.Cycle ∷ argument.Book ∷ []
-arguments_of command.Extract = argument.Cycle ∷ argument.Extracted ∷ argument.NeededLines ∷ argument.Partial ∷ []
-arguments_of command.Check = argument.Service ∷ argument.Long ∷ argument.Strict ∷ argument.Json ∷ []
+arguments_of command.Extract = argument.Cycle ∷ argument.Extracted ∷ argument.NeededLines ∷ []
+arguments_of command.Check = argument.Service ∷ []
 arguments_of command.Version = []
-arguments_of command.Air =
-    argument.Watched ∷ argument.Within ∷ argument.Repeat ∷ argument.AirAt ∷ argument.Zone ∷ argument.Offset ∷ argument.AirFields
-    ∷ argument.AirLate ∷ argument.AtOnce ∷ argument.Spread ∷ argument.AirLog ∷ argument.ReplayLog ∷ argument.Force ∷ []
-arguments_of command.Compose = argument.Author ∷ argument.Composed ∷ []
-arguments_of command.Decompose = argument.Service ∷ argument.Decomposed ∷ []
-arguments_of command.Report = argument.Cycle ∷ argument.Service ∷ argument.Certificate ∷ argument.Reported ∷ argument.Date ∷ []
 arguments_of command.Explain = argument.Reason ∷ []
 
 abbrev pub named_in : Text → List CommandName → CommandName

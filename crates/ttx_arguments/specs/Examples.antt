@@ -7,25 +7,20 @@
 --   SecondsTexts, FindWords  seconds as fields, and texts that are none; one deadline, and two
 --   RepeatWords              a number at the end of its range, and one beyond it
 --   SpliceWords, WaitWords   a number that need not be there; options without a value
---   MonitorWords             a slot that need not be there, and two inputs that are standard input; options that do not go together
---   PreviewWords, ReplayWords       an operand that need not be there, in whose place an option is; names of one command
---   AirWords, ComposeWords   one of two options, and options that do not go with one; an input and an output that are standard streams
+--   MonitorWords             a slot that need not be there, and two inputs that are standard input
+--   ExplainWords             an operand that names no file; an option of one command, and no other
 --   TwiceWords               standard input for two inputs, and for a cycle that is read twice
 use Rattle.std.specs.Prelude.{◌≡◌, ℕ, pos, negsuc, Bool, List, [], ◌∷◌, ◌++◌, Option, Some, None, Ok, Err, codes, true, false}
 use Rattle.clap.specs.Words.{Text, fault_of}
 use Rattle.clap.specs.declared.error.kind.ErrorKind.TheVariants.{DisplayVersion, MissingRequiredArgument, ValueValidation}
 use Rattle.ttx_page.specs.declared.class.Class.TheVariants.{Any}
 use Rattle.ttx_arguments.specs.Grammar.{ttx_app}
-use Rattle.ttx_arguments.specs.Orders.{Asks, OrderView, certify_order, find_order, monitor_order, plan_order, send_order, splice_order, wait_order, no_time, two_clocks, no_seconds, two_deadlines, within_and_more, numbers_unfit, named_twice}
-use Rattle.ttx_arguments.specs.Orders.{air_order, air_replay_order, compose_order, preview_all_order, preview_order, replay_order, unmet}
+use Rattle.ttx_arguments.specs.Orders.{Asks, OrderView, certify_order, find_order, monitor_order, plan_order, send_order, splice_order, wait_order, no_time, two_clocks, no_seconds, two_deadlines, within_and_more, numbers_unfit, named_twice, apart, explain_order, pages_order}
 use Rattle.ttx_arguments.specs.Seconds.{fields_of}
 use Rattle.ttx_arguments.specs.Timings.{StartView, start_now, start_utc, start_text, ClockView, clock_ahead, clock_in}
 use Rattle.ttx_arguments.specs.declared.arguments.Argument.TheVariants as argument
-use Rattle.ttx_arguments.specs.declared.conditions.Condition.TheVariants.{Apart, Either}
+use Rattle.ttx_arguments.specs.Conflicts as conflicts
 use Rattle.ttx_arguments.specs.declared.grammar.Names.{Names}
-use Rattle.ttx_arguments.specs.declared.orders.ReplayForm.TheVariants as shown
-use Rattle.ttx_picture.specs.declared.forms.Form.TheVariants as form
-use Rattle.ttx_page.specs.declared.selection.Selection.TheVariants.{AnySub}
 
 abbrev pub VersionWords : Type 0
 VersionWords =
@@ -36,7 +31,7 @@ abbrev certify_texts : List Text
 certify_texts = codes "certify" ∷ codes "c" ∷ codes "s" ∷ codes "k" ∷ []
 
 abbrev certified : Bool → Bool → Option ℕ → OrderView
-certified late numbers within = certify_order (codes "c") (codes "s") (codes "k") late numbers false within false false
+certified late numbers within = certify_order (codes "c") (codes "s") (codes "k") late numbers false within false
 
 abbrev pub CertifyWords : Type 0
 CertifyWords =
@@ -49,9 +44,8 @@ CertifyWords =
     × Asks (ttx_app names) (certify_texts ++ codes "--numbers" ∷ []) (Err numbers_unfit)
     × Asks (ttx_app names) (certify_texts ++ codes "--late" ∷ codes "--numbers" ∷ codes "--twice" ∷ []) (Err numbers_unfit)
     × Asks (ttx_app names) (certify_texts ++ codes "--late" ∷ codes "--numbers" ∷ codes "--within" ∷ codes "1" ∷ []) (Err numbers_unfit)
-    × Asks (ttx_app names) (certify_texts ++ codes "--all" ∷ codes "--json" ∷ [])
-    (Ok (certify_order (codes "c") (codes "s") (codes "k") false false false None true true))
-    × Asks (ttx_app names) (certify_texts ++ codes "--all" ∷ codes "--within=1" ∷ []) (Err (unmet (Apart argument.CertifyAll argument.Within)))
+    × Asks (ttx_app names) (certify_texts ++ codes "--all" ∷ []) (Ok (certify_order (codes "c") (codes "s") (codes "k") false false false None true))
+    × Asks (ttx_app names) (certify_texts ++ codes "--all" ∷ codes "--within=1" ∷ []) (Err (apart (conflicts.apart argument.CertifyAll argument.Within)))
 
 abbrev send_texts : Text → List Text
 send_texts at = codes "send" ∷ codes "c" ∷ codes "--at" ∷ at ∷ codes "--fields" ∷ codes "3" ∷ codes "--lines" ∷ codes "12" ∷ []
@@ -131,7 +125,7 @@ abbrev wait_texts : List Text
 wait_texts = codes "wait" ∷ codes "c" ∷ codes "s" ∷ []
 
 abbrev waited : Bool → Bool → OrderView
-waited items numbers = wait_order (codes "c") (codes "s") 1 Any items numbers false
+waited items numbers = wait_order (codes "c") (codes "s") 1 Any items numbers
 
 abbrev pub WaitWords : Type 0
 WaitWords =
@@ -143,54 +137,22 @@ WaitWords =
 abbrev monitor_texts : List Text
 monitor_texts = codes "monitor" ∷ codes "c" ∷ codes "s" ∷ codes "k" ∷ codes "-" ∷ []
 
-abbrev monitored : Option ℕ → Bool → Option ℕ → Bool → OrderView
-monitored start all every rows = monitor_order (codes "c") (codes "s") (codes "k") (codes "-") start all every rows false
+abbrev monitored : Option ℕ → Bool → Option ℕ → OrderView
+monitored start all every = monitor_order (codes "c") (codes "s") (codes "k") (codes "-") start all every
 
 abbrev pub MonitorWords : Type 0
 MonitorWords =
-    (names : Names) → Asks (ttx_app names) monitor_texts (Ok (monitored None false None false))
-    × Asks (ttx_app names) (monitor_texts ++ codes "--start=0" ∷ []) (Ok (monitored (Some 0) false None false))
-    × Asks (ttx_app names) (monitor_texts ++ codes "--all" ∷ codes "--every=1000000" ∷ []) (Ok (monitored None true (Some 1000000) false))
-    × Asks (ttx_app names) (monitor_texts ++ codes "--every=50" ∷ codes "--rows" ∷ []) (Err (unmet (Apart argument.Rows argument.Every)))
+    (names : Names) → Asks (ttx_app names) monitor_texts (Ok (monitored None false None))
+    × Asks (ttx_app names) (monitor_texts ++ codes "--start=0" ∷ []) (Ok (monitored (Some 0) false None))
+    × Asks (ttx_app names) (monitor_texts ++ codes "--all" ∷ codes "--every=1000000" ∷ []) (Ok (monitored None true (Some 1000000)))
     × Asks (ttx_app names) (codes "monitor" ∷ codes "-" ∷ codes "s" ∷ codes "k" ∷ codes "-" ∷ []) (Err named_twice)
     × (fault_of (ttx_app names) (monitor_texts ++ codes "--start=65536" ∷ []) ≡ ValueValidation ∷ [])
 
-abbrev pub PreviewWords : Type 0
-PreviewWords =
-    (names : Names) → Asks (ttx_app names) (codes "preview" ∷ codes "s" ∷ codes "100" ∷ [])
-    (Ok (preview_order (codes "s") (AnySub 1 0) (record { page = codes "100"; form = form.Ansi; reveal = false })))
-    × Asks (ttx_app names) (codes "preview" ∷ codes "s" ∷ codes "--all" ∷ codes "--reveal" ∷ []) (Ok (preview_all_order (codes "s") form.Ansi true))
-    × Asks (ttx_app names) (codes "preview" ∷ codes "s" ∷ []) (Err (unmet (Either argument.SomePage argument.PreviewAll)))
-    × Asks (ttx_app names) (codes "preview" ∷ codes "s" ∷ codes "-" ∷ codes "--all" ∷ []) (Err (unmet (Apart argument.SomePage argument.PreviewAll)))
-
-abbrev replay_texts : List Text
-replay_texts = codes "replay" ∷ codes "c" ∷ codes "s" ∷ codes "r" ∷ []
-
-abbrev pub ReplayWords : Type 0
-ReplayWords =
-    (names : Names) → Asks (ttx_app names) replay_texts (Ok (replay_order (codes "c") (codes "s") (codes "r") shown.Words))
-
-abbrev air_texts : List Text
-air_texts = codes "air" ∷ codes "s" ∷ codes "--within" ∷ codes "20" ∷ []
-
-abbrev aired : Option ℕ → Bool → Option Text → OrderView
-aired fields late log =
-    air_order (codes "s") 1000 1 (record { start = start_now; clock = clock_ahead (pos 0) }) fields late false log false
-
-abbrev pub AirWords : Type 0
-AirWords =
-    (names : Names) → Asks (ttx_app names) air_texts (Ok (aired None true None))
-    × Asks (ttx_app names) (air_texts ++ codes "--at-once" ∷ codes "--fields=0" ∷ codes "--log=l" ∷ []) (Ok (aired (Some 0) false (Some (codes "l"))))
-    × Asks (ttx_app names) (air_texts ++ codes "--late" ∷ codes "--at=now" ∷ []) (Ok (aired None true None))
-    × Asks (ttx_app names) (air_texts ++ codes "--late" ∷ codes "--at-once" ∷ []) (Err (unmet (Apart argument.AirLate argument.AtOnce)))
-    × Asks (ttx_app names) (air_texts ++ codes "--at=61000/235960" ∷ []) (Err no_time)
-    × Asks (ttx_app names) (codes "air" ∷ codes "t" ∷ codes "--replay=l" ∷ []) (Ok (air_replay_order (codes "t") (codes "l") false))
-    × Asks (ttx_app names) (codes "air" ∷ codes "s" ∷ []) (Err (unmet (Either argument.Within argument.ReplayLog)))
-    × Asks (ttx_app names) (air_texts ++ codes "--replay=l" ∷ []) (Err (unmet (Apart argument.ReplayLog argument.Within)))
-
-abbrev pub ComposeWords : Type 0
-ComposeWords =
-    (names : Names) → Asks (ttx_app names) (codes "compose" ∷ codes "-" ∷ codes "-" ∷ []) (Ok (compose_order (codes "-") (codes "-")))
+abbrev pub ExplainWords : Type 0
+ExplainWords =
+    (names : Names) → Asks (ttx_app names) (codes "explain" ∷ codes "late" ∷ []) (Ok (explain_order (codes "late")))
+    × Asks (ttx_app names) (codes "pages" ∷ codes "c" ∷ codes "--json" ∷ []) (Ok (pages_order (codes "c") true))
+    × Asks (ttx_app names) (codes "pages" ∷ codes "c" ∷ []) (Ok (pages_order (codes "c") false))
 
 abbrev pub TwiceWords : Type 0
 TwiceWords =

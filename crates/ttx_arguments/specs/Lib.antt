@@ -7,5 +7,5 @@ pub mod Timings
 pub mod Seconds
 pub mod Arguments
 pub mod Values
-pub mod Conditions
+pub mod Conflicts
 pub mod Examples

@@ -20,7 +20,7 @@ use Rattle.ttx_page.specs.declared.class.Class.{Class}
 use Rattle.ttx_page.specs.declared.class.Class.TheVariants.{Any, Clearing}
 use Rattle.ttx_page.specs.declared.selection.Selection.{Selection}
 use Rattle.ttx_arguments.specs.Arguments.{takes_of, is_input, arguments_of, command_named}
-use Rattle.ttx_arguments.specs.Conditions.{unmet_at}
+use Rattle.ttx_arguments.specs.Conflicts.{conflict_at}
 use Rattle.ttx_arguments.specs.Grammar.{HasNames, ttx_app}
 use Rattle.ttx_arguments.specs.declared.arguments.Argument.{Argument}
 use Rattle.ttx_arguments.specs.declared.arguments.Argument.TheVariants as argument
@@ -36,19 +36,17 @@ use Rattle.ttx_picture.specs.declared.forms.Form.{Form}
 use Rattle.ttx_picture.specs.declared.forms.Form.TheVariants as form
 use Rattle.ttx_arguments.specs.declared.command_names.CommandName.{CommandName}
 use Rattle.ttx_arguments.specs.declared.command_names.CommandName.TheVariants as command
-use Rattle.ttx_arguments.specs.declared.conditions.Condition.{Condition}
+use Rattle.ttx_arguments.specs.declared.conflicts.Conflict.{Conflict}
 use Rattle.ttx_arguments.specs.declared.orders.Look.{Look}
 use Rattle.ttx_arguments.specs.declared.orders.Order.{Order}
-use Rattle.ttx_arguments.specs.declared.orders.Order.TheVariants.{Inspect, Plan, Find, Certify, Refute, Replay, Receive, Show, Preview, PreviewAll, Splice, Wait}
-use Rattle.ttx_arguments.specs.declared.orders.Order.TheVariants.{Send, Air, AirReplay, Monitor, Report, Pages, Book, Extract, Check, Compose, Decompose, Explain, Version}
+use Rattle.ttx_arguments.specs.declared.orders.Order.TheVariants.{Inspect, Plan, Find, Certify, Refute, Replay, Receive, Show, Preview, Splice, Wait}
+use Rattle.ttx_arguments.specs.declared.orders.Order.TheVariants.{Send, Monitor, Pages, Book, Extract, Check, Explain, Version}
 use Rattle.ttx_arguments.specs.declared.orders.ReceiverKind.{ReceiverKind}
 use Rattle.ttx_arguments.specs.declared.orders.ReceiverKind.TheVariants.{Eager, Careful, Cleared}
-use Rattle.ttx_arguments.specs.declared.orders.ReplayForm.{ReplayForm}
-use Rattle.ttx_arguments.specs.declared.orders.ReplayForm.TheVariants as shown
 use Rattle.ttx_arguments.specs.declared.orders.Sending.{Sending}
 use Rattle.ttx_arguments.specs.declared.orders.Tuning.{Tuning}
 use Rattle.ttx_arguments.specs.declared.orders.WordsFault.{WordsFault}
-use Rattle.ttx_arguments.specs.declared.orders.WordsFault.TheVariants.{Refused, Page, Time, Seconds, Deadlines, Within, Numbers, Clocks, Twice, NoMemory, Unmet, Forms}
+use Rattle.ttx_arguments.specs.declared.orders.WordsFault.TheVariants.{Refused, Page, Time, Seconds, Deadlines, Within, Numbers, Clocks, Twice, NoMemory, Apart}
 
 -- how a page is shown, its name as bytes
 pub record LookView : Type 0 where
@@ -64,26 +62,20 @@ pub data OrderView : Type 0 where
   inspect_order : (file : Text) → OrderView
   plan_order : (service out : Text) → (class : Class) → (late spread : Bool) → OrderView
   find_order : (cycle service out : Text) → (repeat : ℕ) → (class : Class) → (deadline : Option ℕ) → OrderView
-  certify_order : (cycle service certificate : Text) → (late numbers twice : Bool) → (within : Option ℕ) → (all json : Bool) → OrderView
-  refute_order : (cycle service certificate : Text) → (save : Option Text) → (json : Bool) → OrderView
-  replay_order : (cycle service counter : Text) → (form : ReplayForm) → OrderView
+  certify_order : (cycle service certificate : Text) → (late numbers twice : Bool) → (within : Option ℕ) → (all : Bool) → OrderView
+  refute_order : (cycle service certificate : Text) → (save : Option Text) → OrderView
+  replay_order : (cycle service counter : Text) → OrderView
   receive_order : (cycle : Text) → (tuning : Tuning) → OrderView
   show_order : (cycle : Text) → (tuning : Tuning) → (look : LookView) → OrderView
   preview_order : (service : Text) → (selection : Selection) → (look : LookView) → OrderView
-  preview_all_order : (service : Text) → (form : Form) → (reveal : Bool) → OrderView
   splice_order : (old new old_service new_service old_certificate new_certificate : Text) → (sent : Option ℕ) → (late : Bool) → OrderView
-  wait_order : (cycle service : Text) → (repeat : ℕ) → (class : Class) → (items numbers json : Bool) → OrderView
+  wait_order : (cycle service : Text) → (repeat : ℕ) → (class : Class) → (items numbers : Bool) → OrderView
   send_order : (cycle : Text) → (timing : TimingView) → (sending : Sending) → (force : Bool) → OrderView
-  air_order : (service : Text) → (within repeat : ℕ) → (timing : TimingView) → (fields : Option ℕ) → (late spread : Bool) → (log : Option Text) → (force : Bool) → OrderView
-  air_replay_order : (texts log : Text) → (force : Bool) → OrderView
-  monitor_order : (cycle service certificate feed : Text) → (start : Option ℕ) → (all : Bool) → (every : Option ℕ) → (rows json : Bool) → OrderView
-  report_order : (cycle service certificate out : Text) → (date : Option Text) → OrderView
+  monitor_order : (cycle service certificate feed : Text) → (start : Option ℕ) → (all : Bool) → (every : Option ℕ) → OrderView
   pages_order : (cycle : Text) → (json : Bool) → OrderView
   book_order : (cycle out : Text) → OrderView
-  extract_order : (cycle out : Text) → (lines : ℕ) → (partial : Bool) → OrderView
-  check_order : (service : Text) → (long strict json : Bool) → OrderView
-  compose_order : (author out : Text) → OrderView
-  decompose_order : (service out : Text) → OrderView
+  extract_order : (cycle out : Text) → (lines : ℕ) → OrderView
+  check_order : (service : Text) → OrderView
   explain_order : (reason : Text) → OrderView
   version_order : OrderView
 
@@ -91,28 +83,21 @@ abbrev pub order_view : Order → OrderView
 order_view (Inspect file) = inspect_order file.now
 order_view (Plan o) = plan_order o.service.now o.out.now o.class o.late o.spread
 order_view (Find o) = find_order o.cycle.now o.service.now o.out.now o.repeat o.class o.deadline
-order_view (Certify o) = certify_order o.cycle.now o.service.now o.certificate.now o.late o.numbers o.twice o.within o.all o.json
-order_view (Refute o) = refute_order o.cycle.now o.service.now o.certificate.now (option_map (λ s. s.now) o.save) o.json
-order_view (Replay o) = replay_order o.cycle.now o.service.now o.counter.now o.form
+order_view (Certify o) = certify_order o.cycle.now o.service.now o.certificate.now o.late o.numbers o.twice o.within o.all
+order_view (Refute o) = refute_order o.cycle.now o.service.now o.certificate.now (option_map (λ s. s.now) o.save)
+order_view (Replay o) = replay_order o.cycle.now o.service.now o.counter.now
 order_view (Receive cycle tuning) = receive_order cycle.now tuning
 order_view (Show cycle tuning look) = show_order cycle.now tuning (look_view look)
 order_view (Preview service selection look) = preview_order service.now selection (look_view look)
-order_view (PreviewAll service form reveal) = preview_all_order service.now form reveal
 order_view (Splice o) =
     splice_order o.old.now o.new.now o.old_service.now o.new_service.now o.old_certificate.now o.new_certificate.now o.sent o.late
-order_view (Wait o) = wait_order o.cycle.now o.service.now o.repeat o.class o.items o.numbers o.json
+order_view (Wait o) = wait_order o.cycle.now o.service.now o.repeat o.class o.items o.numbers
 order_view (Send o) = send_order o.cycle.now (timing_view o.timing) o.sending o.force
-order_view (Air o) =
-    air_order o.service.now o.within o.repeat (timing_view o.timing) o.fields o.late o.spread (option_map (λ s. s.now) o.log) o.force
-order_view (AirReplay o) = air_replay_order o.texts.now o.log.now o.force
-order_view (Monitor o) = monitor_order o.cycle.now o.service.now o.certificate.now o.feed.now o.start o.all o.every o.rows o.json
-order_view (Report o) = report_order o.cycle.now o.service.now o.certificate.now o.out.now (option_map (λ s. s.now) o.date)
+order_view (Monitor o) = monitor_order o.cycle.now o.service.now o.certificate.now o.feed.now o.start o.all o.every
 order_view (Pages cycle json) = pages_order cycle.now json
 order_view (Book cycle out) = book_order cycle.now out.now
-order_view (Extract cycle out lines partial) = extract_order cycle.now out.now lines partial
-order_view (Check o) = check_order o.service.now o.long o.strict o.json
-order_view (Compose author out) = compose_order author.now out.now
-order_view (Decompose service out) = decompose_order service.now out.now
+order_view (Extract cycle out lines) = extract_order cycle.now out.now lines
+order_view (Check service) = check_order service.now
 order_view (Explain reason) = explain_order reason.now
 order_view Version = version_order
 
@@ -158,13 +143,6 @@ form_named name =
     else if bytes_eq name (codes "html") then form.Html
     else form.Ansi
 
--- words unless it is another
-abbrev pub replay_form_named : Text → ReplayForm
-replay_form_named name =
-    if bytes_eq name (codes "text") then shown.Text
-    else if bytes_eq name (codes "html") then shown.Html
-    else shown.Words
-
 -- why words that `clap` takes ask for nothing
 pub data Unfit : Type 0 where
   no_page : Unfit
@@ -175,8 +153,7 @@ pub data Unfit : Type 0 where
   numbers_unfit : Unfit
   two_clocks : Unfit
   named_twice : Unfit
-  unmet : Condition → Unfit
-  one_page_form : Unfit
+  apart : Conflict → Unfit
 
 abbrev pub tuning_asked : Selection → List Row → Tuning
 tuning_asked selection rows = record {
@@ -232,7 +209,7 @@ abbrev pub certify_with : Option ℕ → List Row → OrderView
 certify_with within rows =
     certify_order (text_at argument.Cycle rows) (text_at argument.Service rows) (text_at argument.Certificate rows)
     (is_set argument.Late rows) (is_set argument.Numbers rows) (is_set argument.Twice rows) within
-    (is_set argument.CertifyAll rows) (is_set argument.Json rows)
+    (is_set argument.CertifyAll rows)
 
 abbrev pub certify_required : Option ℕ → List Row → Result OrderView Unfit
 certify_required None rows = Err no_seconds
@@ -262,12 +239,9 @@ certify_at rows = certify_by (is_set argument.Numbers rows) (given_at argument.W
 abbrev pub refute_at : List Row → OrderView
 refute_at rows =
     refute_order (text_at argument.Cycle rows) (text_at argument.Service rows) (text_at argument.Certificate rows) (given_at argument.Save rows)
-    (is_set argument.Json rows)
 
 abbrev pub replay_at : List Row → OrderView
-replay_at rows =
-    replay_order (text_at argument.Cycle rows) (text_at argument.Service rows) (text_at argument.Counter rows)
-    (replay_form_named (text_at argument.ReplayForm rows))
+replay_at rows = replay_order (text_at argument.Cycle rows) (text_at argument.Service rows) (text_at argument.Counter rows)
 
 abbrev pub receive_at : List Row → Result OrderView Unfit
 receive_at rows = receive_by (selection_of (text_at argument.Page rows)) rows
@@ -275,22 +249,8 @@ receive_at rows = receive_by (selection_of (text_at argument.Page rows)) rows
 abbrev pub show_at : List Row → Result OrderView Unfit
 show_at rows = show_by (selection_of (text_at argument.Page rows)) rows
 
--- SVG and HTML are forms of one page
-abbrev pub is_of_one_page : Form → Bool
-is_of_one_page form.Svg = true
-is_of_one_page form.Html = true
-is_of_one_page _ = false
-
-abbrev pub preview_all_as : Form → List Row → Result OrderView Unfit
-preview_all_as form rows =
-    if is_of_one_page form then Err one_page_form
-    else Ok (preview_all_order (text_at argument.Service rows) form (is_set argument.Reveal rows))
-
--- all pages, or the one that is named
 abbrev pub preview_at : List Row → Result OrderView Unfit
-preview_at rows =
-    if is_set argument.PreviewAll rows then preview_all_as (form_named (text_at argument.Form rows)) rows
-    else preview_by (selection_of (text_at argument.Page rows)) rows
+preview_at rows = preview_by (selection_of (text_at argument.Page rows)) rows
 
 abbrev pub splice_asked : List Row → OrderView
 splice_asked rows =
@@ -302,18 +262,11 @@ abbrev pub wait_at : List Row → OrderView
 wait_at rows =
     wait_order (text_at argument.Cycle rows) (text_at argument.Service rows) (repeat_at rows)
     (class_named (text_at argument.Class rows)) (is_set argument.Items rows) (is_set argument.WaitNumbers rows)
-    (is_set argument.Json rows)
 
 abbrev pub monitor_at : List Row → OrderView
 monitor_at rows =
     monitor_order (text_at argument.Cycle rows) (text_at argument.Service rows) (text_at argument.Certificate rows) (text_at argument.Feed rows)
-    (number_given argument.FeedStart rows) (is_set argument.MonitorAll rows) (number_given argument.Every rows) (is_set argument.Rows rows)
-    (is_set argument.Json rows)
-
-abbrev pub report_at : List Row → OrderView
-report_at rows =
-    report_order (text_at argument.Cycle rows) (text_at argument.Service rows) (text_at argument.Certificate rows) (text_at argument.Reported rows)
-    (given_at argument.Date rows)
+    (number_given argument.FeedStart rows) (is_set argument.MonitorAll rows) (number_given argument.Every rows)
 
 abbrev pub pages_at : List Row → OrderView
 pages_at rows = pages_order (text_at argument.Cycle rows) (is_set argument.Json rows)
@@ -322,18 +275,10 @@ abbrev pub book_at : List Row → OrderView
 book_at rows = book_order (text_at argument.Cycle rows) (text_at argument.Book rows)
 
 abbrev pub extract_at : List Row → OrderView
-extract_at rows =
-    extract_order (text_at argument.Cycle rows) (text_at argument.Extracted rows) (lines_at rows) (is_set argument.Partial rows)
+extract_at rows = extract_order (text_at argument.Cycle rows) (text_at argument.Extracted rows) (lines_at rows)
 
 abbrev pub check_at : List Row → OrderView
-check_at rows =
-    check_order (text_at argument.Service rows) (is_set argument.Long rows) (is_set argument.Strict rows) (is_set argument.Json rows)
-
-abbrev pub compose_at : List Row → OrderView
-compose_at rows = compose_order (text_at argument.Author rows) (text_at argument.Composed rows)
-
-abbrev pub decompose_at : List Row → OrderView
-decompose_at rows = decompose_order (text_at argument.Service rows) (text_at argument.Decomposed rows)
+check_at rows = check_order (text_at argument.Service rows)
 
 abbrev pub explain_at : List Row → OrderView
 explain_at rows = explain_order (text_at argument.Reason rows)
@@ -366,33 +311,6 @@ send_by (Some start) (Some clock) rows =
 
 abbrev pub send_at : List Row → Result OrderView Unfit
 send_at rows = send_by (start_named (text_at argument.At rows)) (clock_at rows) rows
-
--- late unless it is at once
-abbrev pub air_with : ℕ → TimingView → List Row → OrderView
-air_with within timing rows =
-    air_order (text_at argument.Watched rows) within (repeat_at rows) timing (number_given argument.AirFields rows)
-    (not (is_set argument.AtOnce rows)) (is_set argument.Spread rows) (given_at argument.AirLog rows) (is_set argument.Force rows)
-
-abbrev pub air_by : Option ℕ → Option StartView → Option ClockView → List Row → Result OrderView Unfit
-air_by None start clock rows = Err no_seconds
-air_by (Some within) None clock rows = Err no_time
-air_by (Some within) (Some start) None rows = Err two_clocks
-air_by (Some within) (Some start) (Some clock) rows = Ok (air_with within (record { start = start; clock = clock }) rows)
-
--- when the machine's clock is asked, unless it is another time
-abbrev pub air_start_at : List Row → Option StartView
-air_start_at rows = start_named (unwrap_or (given_at argument.AirAt rows) (codes "now"))
-
-abbrev pub air_on : List Row → Result OrderView Unfit
-air_on rows = air_by (fields_of (text_at argument.Within rows)) (air_start_at rows) (clock_at rows) rows
-
--- what a log says, or a service
-abbrev pub air_from : Option Text → List Row → Result OrderView Unfit
-air_from (Some log) rows = Ok (air_replay_order (text_at argument.Watched rows) log (is_set argument.Force rows))
-air_from None rows = air_on rows
-
-abbrev pub air_at : List Row → Result OrderView Unfit
-air_at rows = air_from (given_at argument.ReplayLog rows) rows
 
 abbrev pub is_standard : Argument → List Row → Bool
 is_standard argument rows = bytes_eq (text_at argument rows) (codes "-")
@@ -427,19 +345,15 @@ order_by command.Book rows = Ok (book_at rows)
 order_by command.Extract rows = Ok (extract_at rows)
 order_by command.Check rows = Ok (check_at rows)
 order_by command.Version rows = Ok version_order
-order_by command.Air rows = air_at rows
-order_by command.Compose rows = Ok (compose_at rows)
-order_by command.Decompose rows = Ok (decompose_at rows)
-order_by command.Report rows = Ok (report_at rows)
 order_by command.Explain rows = Ok (explain_at rows)
 
--- unless a condition of the command is not met
-abbrev pub fitting : Option Condition → CommandName → List Row → Result OrderView Unfit
+-- unless two of its arguments do not go together
+abbrev pub fitting : Option Conflict → CommandName → List Row → Result OrderView Unfit
 fitting None command rows = order_by command rows
-fitting (Some condition) command rows = Err (unmet condition)
+fitting (Some conflict) command rows = Err (apart conflict)
 
 abbrev pub once : CommandName → List Row → Result OrderView Unfit
-once command rows = if is_twice command rows then Err named_twice else fitting (unmet_at command rows) command rows
+once command rows = if is_twice command rows then Err named_twice else fitting (conflict_at command rows) command rows
 
 unfoldable pub order_at : Text → List Row → Result OrderView Unfit
 order_at name rows = once (command_named name) rows
@@ -474,8 +388,7 @@ AnswersBy app words (Err Within) = Asks app words (Err within_and_more)
 AnswersBy app words (Err Numbers) = Asks app words (Err numbers_unfit)
 AnswersBy app words (Err Clocks) = Asks app words (Err two_clocks)
 AnswersBy app words (Err Twice) = Asks app words (Err named_twice)
-AnswersBy app words (Err (Unmet condition)) = Asks app words (Err (unmet condition))
-AnswersBy app words (Err Forms) = Asks app words (Err one_page_form)
+AnswersBy app words (Err (Apart conflict)) = Asks app words (Err (apart conflict))
 AnswersBy app words (Err NoMemory) = ⊤
 
 -- The same with the names that `--kind`, `--class` and `--as` take.
@@ -494,8 +407,7 @@ IsOrderOf (Err Numbers) answer = answer ≡ Err numbers_unfit
 IsOrderOf (Err Clocks) answer = answer ≡ Err two_clocks
 IsOrderOf (Err (Refused error)) answer = ⊥
 IsOrderOf (Err Twice) answer = answer ≡ Err named_twice
-IsOrderOf (Err (Unmet condition)) answer = answer ≡ Err (unmet condition)
-IsOrderOf (Err Forms) answer = answer ≡ Err one_page_form
+IsOrderOf (Err (Apart conflict)) answer = answer ≡ Err (apart conflict)
 IsOrderOf (Err NoMemory) answer = ⊥
 
 -- the kind of an error of `clap` is one of these
@@ -509,8 +421,7 @@ IsRefusalOf Within kinds = ⊥
 IsRefusalOf Numbers kinds = ⊥
 IsRefusalOf Clocks kinds = ⊥
 IsRefusalOf Twice kinds = ⊥
-IsRefusalOf (Unmet condition) kinds = ⊥
-IsRefusalOf Forms kinds = ⊥
+IsRefusalOf (Apart conflict) kinds = ⊥
 IsRefusalOf NoMemory kinds = ⊤
 
 -- an error of `clap`, and want of memory by its own name
@@ -524,8 +435,7 @@ IsFaultOf Within e = ⊥
 IsFaultOf Numbers e = ⊥
 IsFaultOf Clocks e = ⊥
 IsFaultOf Twice e = ⊥
-IsFaultOf (Unmet condition) e = ⊥
-IsFaultOf Forms e = ⊥
+IsFaultOf (Apart conflict) e = ⊥
 IsFaultOf NoMemory e = kind_of e ≡ OutOfMemory
 
 -- what `clap` refuses stays refused, but for the version, which is an order
@@ -541,6 +451,5 @@ IsSettled Within (Err Within) = ⊤
 IsSettled Numbers (Err Numbers) = ⊤
 IsSettled Clocks (Err Clocks) = ⊤
 IsSettled Twice (Err Twice) = ⊤
-IsSettled (Unmet condition) (Err (Unmet c)) = c ≡ condition
-IsSettled Forms (Err Forms) = ⊤
+IsSettled (Apart conflict) (Err (Apart c)) = c ≡ conflict
 IsSettled _ _ = ⊥

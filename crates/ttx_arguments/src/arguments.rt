@@ -5,19 +5,17 @@ ghost use Rattle.ttx_arguments.specs.Arguments as rule;
 
 use crate::help;
 
-/// What an argument takes: it is an operand, which has to be there or need not, or an option with any text, a number from low to high, half
+/// What an argument takes: it is an operand, or an option with any text, a number from low to high, half
 /// hours, a name of a list, or nothing.
 #[derive(Clone, Copy)]
 pub enum Takes {
     Operand,
-    Optional,
     Text,
     Number(u64, u64),
     HalfHours,
     Kind,
     Class,
     Form,
-    ReplayForm,
     Nothing,
 }
 
@@ -69,30 +67,11 @@ pub enum Argument {
     Reveal,
     Items,
     Force,
-    Author,
-    Composed,
-    Decomposed,
-    SomePage,
-    Reported,
     Reason,
-    Watched,
-    AirAt,
-    AirFields,
-    AirLog,
-    ReplayLog,
     Every,
-    ReplayForm,
-    Date,
-    AirLate,
-    AtOnce,
-    Long,
-    Strict,
     Json,
-    PreviewAll,
     MonitorAll,
     CertifyAll,
-    Rows,
-    Partial,
 }
 
 impl Argument {
@@ -103,18 +82,12 @@ impl Argument {
         match self {
             Argument::File => "file",
             Argument::Cycle => "cycle",
-            Argument::Service | Argument::Watched => "service",
+            Argument::Service => "service",
             Argument::Certificate => "certificate",
             Argument::Counter => "counter",
             Argument::Feed => "feed",
-            Argument::Page | Argument::SomePage => "page",
-            Argument::Planned
-            | Argument::Found
-            | Argument::Book
-            | Argument::Extracted
-            | Argument::Composed
-            | Argument::Decomposed
-            | Argument::Reported => "out",
+            Argument::Page => "page",
+            Argument::Planned | Argument::Found | Argument::Book | Argument::Extracted => "out",
             Argument::Old => "old",
             Argument::New => "new",
             Argument::OldService => "old_service",
@@ -123,12 +96,12 @@ impl Argument {
             Argument::NewCertificate => "new_certificate",
             Argument::Class => "class",
             Argument::Kind => "kind",
-            Argument::Form | Argument::ReplayForm => "as",
+            Argument::Form => "as",
             Argument::Repeat => "repeat",
             Argument::Lines | Argument::NeededLines => "lines",
             Argument::Start | Argument::FeedStart => "start",
             Argument::Slots => "slots",
-            Argument::Fields | Argument::AirFields => "fields",
+            Argument::Fields => "fields",
             Argument::Phase => "phase",
             Argument::Offset => "offset",
             Argument::Zone => "zone",
@@ -136,48 +109,35 @@ impl Argument {
             Argument::Deadline => "deadline",
             Argument::Within => "within",
             Argument::Save => "save",
-            Argument::At | Argument::AirAt => "at",
-            Argument::PlannedLate | Argument::Late | Argument::SplicedLate | Argument::AirLate =>
-                "late",
+            Argument::At => "at",
+            Argument::PlannedLate | Argument::Late | Argument::SplicedLate => "late",
             Argument::Spread => "spread",
             Argument::Numbers | Argument::WaitNumbers => "numbers",
             Argument::Twice => "twice",
             Argument::Reveal => "reveal",
             Argument::Items => "items",
             Argument::Force => "force",
-            Argument::Author => "author",
             Argument::Reason => "reason",
-            Argument::AirLog => "log",
-            Argument::ReplayLog => "replay",
             Argument::Every => "every",
-            Argument::Date => "date",
-            Argument::AtOnce => "at-once",
-            Argument::Long => "long",
-            Argument::Strict => "strict",
             Argument::Json => "json",
-            Argument::PreviewAll | Argument::MonitorAll | Argument::CertifyAll => "all",
-            Argument::Rows => "rows",
-            Argument::Partial => "partial",
+            Argument::MonitorAll | Argument::CertifyAll => "all",
         }
     }
 
     /// What help calls its value.
     pub(crate) fn value_name<'a>(self) -> &'a str {
         match self {
-            Argument::File | Argument::AirLog => "FILE",
+            Argument::File => "FILE",
             Argument::Cycle => "CYCLE",
-            Argument::Service | Argument::Watched => "SERVICE",
+            Argument::Service => "SERVICE",
             Argument::Certificate => "CERT",
             Argument::Counter => "COUNTER",
             Argument::Feed => "FEED",
-            Argument::Page | Argument::SomePage => "PAGE",
+            Argument::Page => "PAGE",
             Argument::Planned
             | Argument::Found
             | Argument::Book
             | Argument::Extracted
-            | Argument::Composed
-            | Argument::Decomposed
-            | Argument::Reported
             | Argument::Save => "OUT",
             Argument::Old => "OLD",
             Argument::New => "NEW",
@@ -187,22 +147,19 @@ impl Argument {
             Argument::NewCertificate => "NEWCERT",
             Argument::Class => "CLASS",
             Argument::Kind => "KIND",
-            Argument::Form | Argument::ReplayForm => "FORM",
+            Argument::Form => "FORM",
             Argument::Repeat => "K",
             Argument::Lines | Argument::NeededLines => "L",
             Argument::Start | Argument::FeedStart => "S",
-            Argument::Slots | Argument::Fields | Argument::AirFields => "N",
+            Argument::Slots | Argument::Fields => "N",
             Argument::Phase => "F",
             Argument::Offset => "HALVES",
             Argument::Zone => "ZONE",
             Argument::Sent => "PERIODS",
             Argument::Deadline | Argument::Every => "FIELDS",
             Argument::Within => "SECONDS",
-            Argument::At | Argument::AirAt => "TIME",
-            Argument::Author => "AUTHOR",
+            Argument::At => "TIME",
             Argument::Reason => "REASON",
-            Argument::ReplayLog => "LOG",
-            Argument::Date => "DATE",
             Argument::PlannedLate
             | Argument::Spread
             | Argument::Late
@@ -213,16 +170,9 @@ impl Argument {
             | Argument::Reveal
             | Argument::Items
             | Argument::Force
-            | Argument::AirLate
-            | Argument::AtOnce
-            | Argument::Long
-            | Argument::Strict
             | Argument::Json
-            | Argument::PreviewAll
             | Argument::MonitorAll
-            | Argument::CertifyAll
-            | Argument::Rows
-            | Argument::Partial => "",
+            | Argument::CertifyAll => "",
         }
     }
 
@@ -235,7 +185,6 @@ impl Argument {
             Argument::Counter => help::COUNTER_OPERAND,
             Argument::Feed => help::FEED_OPERAND,
             Argument::Page => help::PAGE_OPERAND,
-            Argument::SomePage => help::SOME_PAGE_OPERAND,
             Argument::Planned => help::PLANNED_OPERAND,
             Argument::Found => help::FOUND_OPERAND,
             Argument::Book => help::BOOK_OPERAND,
@@ -274,29 +223,11 @@ impl Argument {
             Argument::Reveal => help::REVEAL_OPTION,
             Argument::Items => help::ITEMS_OPTION,
             Argument::Force => help::FORCE_OPTION,
-            Argument::Author => help::AUTHOR_OPERAND,
-            Argument::Composed => help::COMPOSED_OPERAND,
-            Argument::Decomposed => help::DECOMPOSED_OPERAND,
-            Argument::Reported => help::REPORTED_OPERAND,
             Argument::Reason => help::REASON_OPERAND,
-            Argument::Watched => help::WATCHED_OPERAND,
-            Argument::AirAt => help::AIR_AT_OPTION,
-            Argument::AirFields => help::AIR_FIELDS_OPTION,
-            Argument::AirLog => help::AIR_LOG_OPTION,
-            Argument::ReplayLog => help::REPLAY_LOG_OPTION,
             Argument::Every => help::EVERY_OPTION,
-            Argument::ReplayForm => help::REPLAY_FORM_OPTION,
-            Argument::Date => help::DATE_OPTION,
-            Argument::AirLate => help::AIR_LATE_OPTION,
-            Argument::AtOnce => help::AT_ONCE_OPTION,
-            Argument::Long => help::LONG_OPTION,
-            Argument::Strict => help::STRICT_OPTION,
             Argument::Json => help::JSON_OPTION,
-            Argument::PreviewAll => help::PREVIEW_ALL_OPTION,
             Argument::MonitorAll => help::MONITOR_ALL_OPTION,
             Argument::CertifyAll => help::CERTIFY_ALL_OPTION,
-            Argument::Rows => help::ROWS_OPTION,
-            Argument::Partial => help::PARTIAL_OPTION,
         }
     }
 
@@ -308,24 +239,16 @@ impl Argument {
             Argument::Class => Takes::Class,
             Argument::Kind => Takes::Kind,
             Argument::Form => Takes::Form,
-            Argument::ReplayForm => Takes::ReplayForm,
             Argument::Repeat => Takes::Number(1, 8),
             Argument::Lines | Argument::NeededLines => Takes::Number(1, 32),
             Argument::Start | Argument::FeedStart => Takes::Number(0, 65_535),
             Argument::Slots => Takes::Number(0, 1_000_000),
-            Argument::Fields | Argument::AirFields | Argument::Phase | Argument::Sent => {
+            Argument::Fields | Argument::Phase | Argument::Sent => {
                 Takes::Number(0, 4_294_967_295)
             }
             Argument::Offset => Takes::HalfHours,
             Argument::Deadline | Argument::Every => Takes::Number(1, 1_000_000),
-            Argument::Within
-            | Argument::Save
-            | Argument::At
-            | Argument::AirAt
-            | Argument::AirLog
-            | Argument::ReplayLog
-            | Argument::Date
-            | Argument::Zone => Takes::Text,
+            Argument::Within | Argument::Save | Argument::At | Argument::Zone => Takes::Text,
             Argument::PlannedLate
             | Argument::Spread
             | Argument::Late
@@ -336,17 +259,9 @@ impl Argument {
             | Argument::Reveal
             | Argument::Items
             | Argument::Force
-            | Argument::AirLate
-            | Argument::AtOnce
-            | Argument::Long
-            | Argument::Strict
             | Argument::Json
-            | Argument::PreviewAll
             | Argument::MonitorAll
-            | Argument::CertifyAll
-            | Argument::Rows
-            | Argument::Partial => Takes::Nothing,
-            Argument::SomePage => Takes::Optional,
+            | Argument::CertifyAll => Takes::Nothing,
             _ => Takes::Operand,
         }
     }
@@ -372,7 +287,6 @@ impl Argument {
             | Argument::Certificate
             | Argument::Counter
             | Argument::Feed
-            | Argument::Author
             | Argument::Old
             | Argument::New
             | Argument::OldService

@@ -27,15 +27,11 @@ pub enum CommandName {
     Extract,
     Check,
     Version,
-    Air,
-    Compose,
-    Decompose,
-    Report,
     Explain,
 }
 
 /// The commands, as help lists them.
-pub static COMMANDS: [CommandName; 23] = [
+pub static COMMANDS: [CommandName; 19] = [
     CommandName::Inspect,
     CommandName::Plan,
     CommandName::Find,
@@ -54,10 +50,6 @@ pub static COMMANDS: [CommandName; 23] = [
     CommandName::Extract,
     CommandName::Check,
     CommandName::Version,
-    CommandName::Air,
-    CommandName::Compose,
-    CommandName::Decompose,
-    CommandName::Report,
     CommandName::Explain,
 ];
 
@@ -85,10 +77,6 @@ impl CommandName {
             CommandName::Extract => "extract",
             CommandName::Check => "check",
             CommandName::Version => "version",
-            CommandName::Air => "air",
-            CommandName::Compose => "compose",
-            CommandName::Decompose => "decompose",
-            CommandName::Report => "report",
             CommandName::Explain => "explain",
         }
     }
@@ -123,10 +111,6 @@ impl CommandName {
                 "Reports what is wrong, or probably wrong, in the text of a service",
             CommandName::Version =>
                 "Writes the version, and the proof kit and logic that proved it",
-            CommandName::Air => "Keeps a service on air, with its changes, to standard output",
-            CommandName::Compose => "Makes a service definition of an author's text",
-            CommandName::Decompose => "Makes an author's text of a service definition",
-            CommandName::Report => "Writes a verdict, and the wait for each page, to OUT, as HTML",
             CommandName::Explain => "Explains a reason of a verdict, by its number or its name",
         }
     }
@@ -152,10 +136,6 @@ impl CommandName {
             CommandName::Extract => help::EXTRACT_MORE,
             CommandName::Check => help::CHECK_MORE,
             CommandName::Version => help::VERSION_MORE,
-            CommandName::Air => help::AIR_MORE,
-            CommandName::Compose => help::COMPOSE_MORE,
-            CommandName::Decompose => help::DECOMPOSE_MORE,
-            CommandName::Report => help::REPORT_MORE,
             CommandName::Explain => help::EXPLAIN_MORE,
         }
     }
@@ -180,23 +160,22 @@ impl CommandName {
             CommandName::Certify => &[
                 Argument::Cycle, Argument::Service, Argument::Certificate, Argument::Late,
                 Argument::Numbers, Argument::Twice, Argument::Within, Argument::CertifyAll,
-                Argument::Json,
             ],
-            CommandName::Refute => &[Argument::Cycle, Argument::Service, Argument::Certificate, Argument::Save, Argument::Json],
-            CommandName::Replay => &[Argument::Cycle, Argument::Service, Argument::Counter, Argument::ReplayForm],
+            CommandName::Refute => &[Argument::Cycle, Argument::Service, Argument::Certificate, Argument::Save],
+            CommandName::Replay => &[Argument::Cycle, Argument::Service, Argument::Counter],
             CommandName::Receive => &[Argument::Cycle, Argument::Page, Argument::Lines, Argument::Start, Argument::Slots, Argument::Kind],
             CommandName::Show => &[
                 Argument::Cycle, Argument::Page, Argument::Lines, Argument::Start,
                 Argument::Slots, Argument::Kind, Argument::Form, Argument::Reveal,
             ],
-            CommandName::Preview => &[Argument::Service, Argument::SomePage, Argument::PreviewAll, Argument::Form, Argument::Reveal],
+            CommandName::Preview => &[Argument::Service, Argument::Page, Argument::Form, Argument::Reveal],
             CommandName::Splice => &[
                 Argument::Old, Argument::New, Argument::OldService,
                 Argument::NewService, Argument::OldCertificate, Argument::NewCertificate, Argument::Sent, Argument::SplicedLate,
             ],
             CommandName::Wait => &[
                 Argument::Cycle, Argument::Service, Argument::Repeat, Argument::Class, Argument::Items,
-                Argument::WaitNumbers, Argument::Json,
+                Argument::WaitNumbers,
             ],
             CommandName::Send => &[
                 Argument::Cycle, Argument::At, Argument::Fields, Argument::NeededLines,
@@ -204,22 +183,13 @@ impl CommandName {
             ],
             CommandName::Monitor => &[
                 Argument::Cycle, Argument::Service, Argument::Certificate, Argument::Feed,
-                Argument::FeedStart, Argument::MonitorAll, Argument::Every, Argument::Rows,
-                Argument::Json,
+                Argument::FeedStart, Argument::MonitorAll, Argument::Every,
             ],
             CommandName::Pages => &[Argument::Cycle, Argument::Json],
             CommandName::Book => &[Argument::Cycle, Argument::Book],
-            CommandName::Extract => &[Argument::Cycle, Argument::Extracted, Argument::NeededLines, Argument::Partial],
-            CommandName::Check => &[Argument::Service, Argument::Long, Argument::Strict, Argument::Json],
+            CommandName::Extract => &[Argument::Cycle, Argument::Extracted, Argument::NeededLines],
+            CommandName::Check => &[Argument::Service],
             CommandName::Version => &[],
-            CommandName::Air => &[
-                Argument::Watched, Argument::Within, Argument::Repeat, Argument::AirAt, Argument::Zone,
-                Argument::Offset, Argument::AirFields, Argument::AirLate, Argument::AtOnce,
-                Argument::Spread, Argument::AirLog, Argument::ReplayLog, Argument::Force,
-            ],
-            CommandName::Compose => &[Argument::Author, Argument::Composed],
-            CommandName::Decompose => &[Argument::Service, Argument::Decomposed],
-            CommandName::Report => &[Argument::Cycle, Argument::Service, Argument::Certificate, Argument::Reported, Argument::Date],
             CommandName::Explain => &[Argument::Reason],
         }
     }

@@ -6,25 +6,24 @@ ghost use Rattle.ttx_arguments.specs.Arguments.{is_input};
 ghost use Rattle.ttx_arguments.specs.Orders as rule;
 ghost use Rattle.ttx_arguments.specs.Orders.{order_view, inspect_at, plan_at, find_at, certify_at, refute_at, replay_at, receive_at, show_at};
 ghost use Rattle.ttx_arguments.specs.Orders.{preview_at, splice_asked, wait_at, send_at, monitor_at, pages_at, book_at, extract_at, check_at, IsOrderOf};
-ghost use Rattle.ttx_arguments.specs.Orders.{compose_at, decompose_at, report_at, explain_at};
+ghost use Rattle.ttx_arguments.specs.Orders.{explain_at};
 ghost use Rattle.ttx_arguments.specs.Orders.{is_standard, is_cycle_twice};
 
 use crate::arguments::Argument;
 use crate::command_names::CommandName;
 use crate::orders::{
-    CertifyOrder, CheckOrder, FindOrder, MonitorOrder, Order, PlanOrder, RefuteOrder, ReplayOrder,
-    ReportOrder, SendOrder, SpliceOrder, Timing, WaitOrder, WordsFault,
+    CertifyOrder, FindOrder, MonitorOrder, Order, PlanOrder, RefuteOrder, ReplayOrder, SendOrder,
+    SpliceOrder, Timing, WaitOrder, WordsFault,
 };
 use crate::page_names::selection;
 use crate::ranges::Fields;
 use crate::seconds::fields_of;
 use crate::timings::{clock_of, start_of};
 use crate::values::{
-    class_of, deadline_of, every_of, form_of, given, given_number, is_set, lines_of, look_of,
-    repeat_of, replay_form_of, sending_of, text_of, tuning_of,
+    class_of, deadline_of, every_of, given, given_number, is_set, lines_of, look_of, repeat_of,
+    sending_of, text_of, tuning_of,
 };
 use clap::ArgMatches;
-use ttx_picture::Form;
 
 fn is_standard(values: &ArgMatches<'_>, argument: Argument) -> bool
     ensures { result ≡ is_standard argument (rows_of (found_of values.now)) }
@@ -84,33 +83,9 @@ pub(crate) fn show_of<'a>(values: &ArgMatches<'a>) -> Result<Order<'a>, WordsFau
     }
 }
 
-// Whether a form is that of one page.
-fn is_of_one_page(form: Form) -> bool
-    ensures { result ≡ rule.is_of_one_page form }
-{
-    matches!(form, Form::Svg | Form::Html)
-}
-
-// All pages in this form.
-fn preview_all_as<'a>(values: &ArgMatches<'a>, form: Form) -> Result<Order<'a>, WordsFault>
-    ensures { IsOrderOf result (rule.preview_all_as form (rows_of (found_of values.now))) }
-{
-    if is_of_one_page(form) {
-        return Err(WordsFault::Forms);
-    }
-    Ok(Order::PreviewAll {
-        service: text_of(values, Argument::Service),
-        form,
-        reveal: is_set(values, Argument::Reveal),
-    })
-}
-
 pub(crate) fn preview_of<'a>(values: &ArgMatches<'a>) -> Result<Order<'a>, WordsFault>
     ensures { IsOrderOf result (preview_at (rows_of (found_of values.now))) }
 {
-    if is_set(values, Argument::PreviewAll) {
-        return preview_all_as(values, form_of(values));
-    }
     match selection(text_of(values, Argument::Page)) {
         None => Err(WordsFault::Page),
         Some(selection) => Ok(Order::Preview {
@@ -181,7 +156,6 @@ fn certify_with<'a>(values: &ArgMatches<'a>, within: Option<Fields>) -> Order<'a
         twice: is_set(values, Argument::Twice),
         within,
         all: is_set(values, Argument::CertifyAll),
-        json: is_set(values, Argument::Json),
     })
 }
 
@@ -231,7 +205,6 @@ pub(crate) fn refute_of<'a>(values: &ArgMatches<'a>) -> Order<'a>
         service: text_of(values, Argument::Service),
         certificate: text_of(values, Argument::Certificate),
         save: given(values, Argument::Save),
-        json: is_set(values, Argument::Json),
     })
 }
 
@@ -242,7 +215,6 @@ pub(crate) fn replay_of<'a>(values: &ArgMatches<'a>) -> Order<'a>
         cycle: text_of(values, Argument::Cycle),
         service: text_of(values, Argument::Service),
         counter: text_of(values, Argument::Counter),
-        form: replay_form_of(values),
     })
 }
 
@@ -271,7 +243,6 @@ pub(crate) fn wait_of<'a>(values: &ArgMatches<'a>) -> Order<'a>
         class: class_of(values),
         items: is_set(values, Argument::Items),
         numbers: is_set(values, Argument::WaitNumbers),
-        json: is_set(values, Argument::Json),
     })
 }
 
@@ -286,20 +257,6 @@ pub(crate) fn monitor_of<'a>(values: &ArgMatches<'a>) -> Order<'a>
         start: given_number(values, Argument::FeedStart),
         all: is_set(values, Argument::MonitorAll),
         every: every_of(values),
-        rows: is_set(values, Argument::Rows),
-        json: is_set(values, Argument::Json),
-    })
-}
-
-pub(crate) fn report_of<'a>(values: &ArgMatches<'a>) -> Order<'a>
-    ensures { order_view result ≡ report_at (rows_of (found_of values.now)) }
-{
-    Order::Report(ReportOrder {
-        cycle: text_of(values, Argument::Cycle),
-        service: text_of(values, Argument::Service),
-        certificate: text_of(values, Argument::Certificate),
-        out: text_of(values, Argument::Reported),
-        date: given(values, Argument::Date),
     })
 }
 
@@ -328,36 +285,14 @@ pub(crate) fn extract_of<'a>(values: &ArgMatches<'a>) -> Order<'a>
         cycle: text_of(values, Argument::Cycle),
         out: text_of(values, Argument::Extracted),
         lines: lines_of(values),
-        partial: is_set(values, Argument::Partial),
     }
 }
 
 pub(crate) fn check_of<'a>(values: &ArgMatches<'a>) -> Order<'a>
     ensures { order_view result ≡ check_at (rows_of (found_of values.now)) }
 {
-    Order::Check(CheckOrder {
+    Order::Check {
         service: text_of(values, Argument::Service),
-        long: is_set(values, Argument::Long),
-        strict: is_set(values, Argument::Strict),
-        json: is_set(values, Argument::Json),
-    })
-}
-
-pub(crate) fn compose_of<'a>(values: &ArgMatches<'a>) -> Order<'a>
-    ensures { order_view result ≡ compose_at (rows_of (found_of values.now)) }
-{
-    Order::Compose {
-        author: text_of(values, Argument::Author),
-        out: text_of(values, Argument::Composed),
-    }
-}
-
-pub(crate) fn decompose_of<'a>(values: &ArgMatches<'a>) -> Order<'a>
-    ensures { order_view result ≡ decompose_at (rows_of (found_of values.now)) }
-{
-    Order::Decompose {
-        service: text_of(values, Argument::Service),
-        out: text_of(values, Argument::Decomposed),
     }
 }
 

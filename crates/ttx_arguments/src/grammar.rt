@@ -17,13 +17,12 @@ use std::alloc::{AllocError, Global};
 // A command, where memory doesn't run out.
 type Building<'a> = Result<Command<'a>, AllocError>;
 
-/// The names that `--kind`, `--class` and `--as` take, also that of `replay`.
+/// The names that `--kind`, `--class` and `--as` take.
 #[derive(Clone, Copy)]
 pub struct Names<'a> {
     pub kinds: &'a [&'a str],
     pub classes: &'a [&'a str],
     pub forms: &'a [&'a str],
-    pub replays: &'a [&'a str],
 }
 
 // What the value of an option has to be.
@@ -36,7 +35,6 @@ fn parser_of<'a>(takes: Takes, names: Names<'a>) -> Option<ValueParser<'a>>
         Takes::Kind => Some(ValueParser::Names(names.kinds)),
         Takes::Class => Some(ValueParser::Names(names.classes)),
         Takes::Form => Some(ValueParser::Names(names.forms)),
-        Takes::ReplayForm => Some(ValueParser::Names(names.replays)),
         _ => None,
     }
 }
@@ -70,9 +68,6 @@ fn argument_of<'a>(alloc: Global, argument: Argument, names: Names<'a>) -> Arg<'
             .value_name(argument.value_name())
             .help(help)
             .required(true),
-        Takes::Optional => Arg::new(alloc, id)
-            .value_name(argument.value_name())
-            .help(help),
         Takes::Nothing => Arg::new(alloc, id)
             .long(id)
             .help(help)
@@ -138,13 +133,6 @@ fn form_names<'a>() -> &'a [&'a str]
     &["text", "ansi", "svg", "html"]
 }
 
-// The names that `--as` of `replay` takes.
-fn replay_names<'a>() -> &'a [&'a str]
-    ensures { AreNames result rule.replay_names }
-{
-    &["words", "text", "html"]
-}
-
 /// The names that options take.
 pub(crate) fn option_names<'a>() -> Names<'a>
     ensures { HasNames result }
@@ -153,7 +141,6 @@ pub(crate) fn option_names<'a>() -> Names<'a>
         kinds: kind_names(),
         classes: class_names(),
         forms: form_names(),
-        replays: replay_names(),
     }
 }
 

@@ -7,38 +7,34 @@ pub(crate) const TTX: &str =
 Usage: ttx <COMMAND>
 
 Write a service:
-  compose    Makes a service definition of an author's text
-  decompose  Makes an author's text of a service definition
-  check      Reports what is wrong, or probably wrong, in the text of a service
-  preview    Writes a page of a service as it is displayed when received whole
+  check    Reports what is wrong, or probably wrong, in the text of a service
+  preview  Writes a page of a service as it is displayed when received whole
 
 Plan and certify:
-  plan       Lays out a service as a cycle of slots, and writes it to OUT
-  find       Finds the certificate with the least deadline, and writes it to OUT
-  certify    Judges a cycle and its service by a certificate, yes or no
-  wait       Prints the longest wait for each page, and the item that causes it
-  refute     Looks for a receiver that fails to show a page (a counter-run)
-  replay     Replays a counter-run of refute, and shows where the page is wrong
-  explain    Explains a reason of a verdict, by its number or its name
-  report     Writes a verdict, and the wait for each page, to OUT, as HTML
+  plan     Lays out a service as a cycle of slots, and writes it to OUT
+  find     Finds the certificate with the least deadline, and writes it to OUT
+  certify  Judges a cycle and its service by a certificate, yes or no
+  wait     Prints the longest wait for each page, and the item that causes it
+  refute   Looks for a receiver that fails to show a page (a counter-run)
+  replay   Replays a counter-run of refute, and shows where the page is wrong
+  explain  Explains a reason of a verdict, by its number or its name
 
 Go on air:
-  air        Keeps a service on air, with its changes, to standard output
-  send       Sends a cycle again and again, with the time, to standard output
-  splice     Judges the change from an old cycle to a new one, yes or no
-  monitor    Judges what a receiver got of a cycle, yes or no
+  send     Sends a cycle again and again, with the time, to standard output
+  splice   Judges the change from an old cycle to a new one, yes or no
+  monitor  Judges what a receiver got of a cycle, yes or no
 
 Look into a packet file:
-  inspect    Writes one line for each slot of a packet file to standard output
-  pages      Lists the pages of a cycle, and what is sent under their headers
-  show       Receives a page of a cycle, and writes it as it is displayed
-  receive    Receives a page of a cycle, and writes the cells that are displayed
-  book       Writes all pages of a cycle to OUT, as one HTML file
-  extract    Writes the service definition that a cycle sends to OUT
+  inspect  Writes one line for each slot of a packet file to standard output
+  pages    Lists the pages of a cycle, and what is sent under their headers
+  show     Receives a page of a cycle, and writes it as it is displayed
+  receive  Receives a page of a cycle, and writes the cells that are displayed
+  book     Writes all pages of a cycle to OUT, as one HTML file
+  extract  Writes the service definition that a cycle sends to OUT
 
 About ttx:
-  version    Writes the version, and the proof kit and logic that proved it
-  help       Writes this help, or that of a command: ttx help plan
+  version  Writes the version, and the proof kit and logic that proved it
+  help     Writes this help, or that of a command: ttx help plan
 
 Options:
   -h, --help     Print help
@@ -54,8 +50,7 @@ Without arguments, ttx runs: ttx inspect -
 An input named - is standard input; only one input may be. ttx opens the inputs
 in the order of the arguments, then creates or empties OUT. After a later
 refusal OUT is empty; if the arguments are refused or an input cannot be opened,
-OUT is untouched. OUT is always the name of a file, except that - is standard
-output for compose and decompose.
+OUT is untouched. OUT is always the name of a file.
 
 Arguments that do not go together are refused, as in
 refused: --all with --twice
@@ -174,8 +169,8 @@ other reason, one of
   no deadline D of E
                      CERT promises D fields, and SECONDS are E fields
 With --all, the verdict is followed by a line for each page of which a reason is
-true, with its first reason, in the order of SERVICE; the last line counts them.
-With --json, each line is a JSON object with the same values.
+true, with its first reason, in the order of SERVICE; the last line counts them:
+  reasons M pages N
 
 Statuses:
   0  yes
@@ -204,8 +199,7 @@ on, round the cycle, with H wrong bits (within the error rule) and C choices,
 ends with something other than the page. So no certificate with these numbers is
 accepted. If all pages are sent unchanged in clean slots, none means that some
 such certificate is accepted. With --save OUT the counter-run is written to OUT;
-OUT stays empty if there is none. With --json, the line is a JSON object with
-the same values.
+OUT stays empty if there is none.
 
 Statuses:
   0  none
@@ -228,12 +222,6 @@ ignoring columns 0 to 7 and 32 to 39 of row 0:
   page row R ..   the row of the page
 and two lines for the links if they differ: shown links .. and page links ..
 Otherwise writes: not a counter-run
-
-FORM is how a counter-run is shown:
-  words  as above
-  text   what happened, in sentences, and then the page as authored beside what
-         the receiver shows, with a mark at each row that differs
-  html   the same, as an HTML page
 
 Statuses:
   0  a counter-run
@@ -299,14 +287,11 @@ form FORM:
 The header clock and columns 0 to 7 of row 0 are spaces. Concealed characters
 are spaces without --reveal. If the service has no such page, writes:
 no page PAGE
-With --all, each page of the service is written, in the form text or ansi.
 
 Statuses:
   0  done
   1  the service has no such page
   2  error: .. (the arguments), refused: page,
-     refused: neither PAGE nor --all, refused: PAGE with --all,
-     refused: forms (--all with --as svg or --as html),
      refused: service NUMBER NAME [KEY] page N, refused: service too-long
   3  fault: file, fault: read, fault: write, fault: memory";
 
@@ -422,8 +407,6 @@ the order of their first pages, each one of
   MPP N subpages, not all sent
       CYCLE has no header of one of them
 
-With --json, each line is a JSON object with the same values.
-
 Statuses:
   0  there is a deadline for all pages, and none is too late
   1  there is none, or a page is too late
@@ -509,16 +492,12 @@ Without --start, S is the slot with which the fewest slots of the first period
 of FEED differ from CYCLE, the first of several.
 
 With --all, FEED is judged to its end, and each breach of the rule has a line.
-With --every, there is a line of state after every FIELDS fields, for logs. With
---rows, the rule is that by rows: of K successive transmissions of a row at
-least one is received whole, and others may be lost. With --json, each line is a
-JSON object with the same values.
+With --every, there is a line of state after every FIELDS fields, for logs.
 
 Statuses:
   0  yes
   1  no
   2  error: .. (the arguments), refused: twice,
-     refused: --rows with .. (--all or --every),
      refused: cycle NUMBER NAME [REST],
      refused: service NUMBER NAME [KEY] page N, refused: service too-long,
      refused: certificate NUMBER NAME [line N], refused: certificate too-long
@@ -575,8 +554,6 @@ the number of its headers, rounded down to 1, 2, 4 or 8, serial is C11, and the
 packet 8/30 is the first one. What is not sent is blank. Before anything is
 written, the text is read back: it must give exactly this service. The cycle
 does not say how many lines a field has, so give L.
-With --partial, pages that no service can have are left out, and each has a line
-with its reason.
 
 Statuses:
   0  done
@@ -605,14 +582,11 @@ ok:
   ok pages N
 PLACE is service, info, magazine M, or page MPP/SSSS and its key; a page without
 an id is named by its position.
-With --long, each line is followed by the line of SERVICE that it speaks of.
-With --json, each line is a JSON object with the same values.
 
 Statuses:
   0  the text is accepted
-  1  with --strict: the text is accepted, with a warning
-  2  the text is refused; also error: .. (the arguments),
-     refused: --long with --json and refused: service too-long on standard error
+  2  the text is refused; also error: .. (the arguments) and
+     refused: service too-long on standard error
   3  fault: file, fault: read, fault: write, fault: memory";
 
 pub(crate) const VERSION_MORE: &str =
@@ -730,131 +704,16 @@ Europe/Berlin; not with --offset";
 
 pub(crate) const FORCE_OPTION: &str = "Write packets also to a terminal";
 
-pub(crate) const AIR_MORE: &str =
-    "Plans SERVICE and certifies its cycle, then writes the cycle again and again, in
-slots of 42 bytes, with the time, as send does. All pages are seen within
-SECONDS; if the least deadline is longer, nothing is sent, and the pages that
-are too slow are named. The reader of standard output sets the pace.
-
-At the end of a period, when a change may be made, and at most once a second,
-ttx looks whether SERVICE has another text. A new text is read, planned and
-certified, and the change is judged as by splice. If the answer is yes, the new
-cycle follows at the end of a period. Otherwise the pages on air stay, for
-whatever reason, and the same text is not tried again.
-
-The log is a line for each event, with its field, on standard error and in FILE.
-With --replay, SERVICE is a folder with the texts that the log LOG names, and
-the bytes that were sent are written again, at once.
-
-TIME, --zone and --offset are as those of send. Without --at it is now.
-
-Statuses:
-  0  N fields are sent
-  1  pages are too slow, or have no deadline
-  2  error: .. (the arguments), refused: seconds, refused: time,
-     refused: clocks (--zone and --offset), refused: zone,
-     refused: neither --within nor --replay,
-     refused: --replay with .. (any option but --force),
-     refused: --late with --at-once,
-     refused: terminal (packets would go to a terminal, without --force),
-     refused: service NUMBER NAME [KEY] page N, refused: service too-long,
-     refused: plan 1 no-pages, refused: plan 2 too-long
-  3  fault: file, fault: read, fault: write (also if the reader of a pipe has
-     gone), fault: memory";
-
-pub(crate) const WATCHED_OPERAND: &str =
-    "Service definition: a file with a TOML text of at most 4194304
-bytes, in which changes are looked for; with --replay, a
-folder with the texts that were on air";
-
-pub(crate) const AIR_AT_OPTION: &str = "When the first field is sent, see ttx send --help
-[default: now]";
-
-pub(crate) const AIR_FIELDS_OPTION: &str = "How many fields to send, 0 to 4294967295; without it,
-there is no end";
-
-pub(crate) const AIR_LATE_OPTION: &str = "Plan and judge also for receivers that may show a page
-late; so it is without --at-once";
-
-pub(crate) const AT_ONCE_OPTION: &str = "Plan and judge only for receivers that show a page at
-once";
-
-pub(crate) const AIR_LOG_OPTION: &str = "File to write the log to, too; created or emptied";
-
-pub(crate) const REPLAY_LOG_OPTION: &str = "Write again what was sent, by the log that --log wrote";
-
-pub(crate) const COMPOSE_MORE: &str =
-    "Reads AUTHOR to its end. Writes the service definition that it stands for to
-OUT. An author's text is a service definition in which each character stands for
-what the viewer sees, and names in braces are control codes, as in {red}. If the
-text has mistakes, each has a line with its place, and OUT stays empty.
-
-Statuses:
-  0  composed
-  1  the text has mistakes
-  2  error: .. (the arguments), refused: same (OUT is AUTHOR),
-     refused: service too-long
-  3  fault: file, fault: read, fault: write, fault: memory";
-
-pub(crate) const AUTHOR_OPERAND: &str = "Author's text: a TOML text of at most 4194304 bytes;
-- is standard input";
-
-pub(crate) const COMPOSED_OPERAND: &str =
-    "Service definition to write, a TOML text; created or emptied;
-- is standard output";
-
-pub(crate) const DECOMPOSE_MORE: &str =
-    "Reads SERVICE to its end. Writes the author's text that stands for it to OUT:
-compose makes the same service of it again.
-
-Statuses:
-  0  done
-  2  error: .. (the arguments), refused: same (OUT is SERVICE),
-     refused: service NUMBER NAME [KEY] page N, refused: service too-long
-  3  fault: file, fault: read, fault: write, fault: memory";
-
-pub(crate) const DECOMPOSED_OPERAND: &str =
-    "Author's text to write, a TOML text; created or emptied;
-- is standard output";
-
-pub(crate) const REPORT_MORE: &str =
-    "Reads CYCLE, SERVICE and CERT, in this order, to their ends. Writes an HTML page
-to OUT, to be printed and filed: the verdict of certify, in words and seconds,
-what it promises and to which receivers, for each page how long its viewers wait
-and what is promised, pages that SERVICE lacks, and the SHA-256 of each input.
-Without --date it has no date; nothing in it depends on the machine's clock.
-
-Statuses:
-  0  the verdict is yes
-  1  the verdict is no
-  2  error: .. (the arguments), refused: twice, refused: date,
-     refused: same (OUT is an input), refused: cycle NUMBER NAME [REST],
-     refused: service NUMBER NAME [KEY] page N, refused: service too-long,
-     refused: certificate NUMBER NAME [line N], refused: certificate too-long
-  3  fault: file, fault: read, fault: write, fault: memory";
-
-pub(crate) const REPORTED_OPERAND: &str = "HTML file to write; created or emptied";
-
-pub(crate) const DATE_OPTION: &str = "Date of the report, as in 2026-11-25";
-
 pub(crate) const EXPLAIN_MORE: &str =
-    "Writes what a reason of certify, find, splice or refute means for viewers, and
-what to do about it. REASON is its number or its name, as in 10 or late.
+    "Writes what a reason of certify or splice means, and what to do about it.
+REASON is its number or its name, as in 10 or late; splice-4 is one of splice.
 
 Statuses:
   0  done
-  2  error: .. (the arguments), refused: reason (there is none of this number or
-     name)
+  2  error: .. (the arguments), refused: reason: is it NAME? (the nearest one)
   3  fault: write, fault: memory";
 
 pub(crate) const REASON_OPERAND: &str = "Number or name of a reason";
-
-pub(crate) const SOME_PAGE_OPERAND: &str =
-    "Page: MPP for any subpage, or MPP/SSSS for one; M is 1 to 8,
-other digits are 0 to 9 and A to F, PP is not FF, SSSS is 0000
-to 3F7E, its third digit at most 7; not with --all";
-
-pub(crate) const PREVIEW_ALL_OPTION: &str = "Write each page of the service, in its order";
 
 pub(crate) const CERTIFY_ALL_OPTION: &str = "Write the first reason of each page, too";
 
@@ -863,17 +722,4 @@ pub(crate) const MONITOR_ALL_OPTION: &str = "Judge FEED to its end, and write ea
 pub(crate) const EVERY_OPTION: &str = "Write a line of state after every FIELDS fields,
 1 to 1000000";
 
-pub(crate) const ROWS_OPTION: &str = "Judge by whole rows, some of which may be lost";
-
-pub(crate) const REPLAY_FORM_OPTION: &str = "How a counter-run is shown, see below
-[default: words]";
-
-pub(crate) const LONG_OPTION: &str = "Write the line of SERVICE that is meant, too; so it is
-without --json if standard output is a terminal";
-
-pub(crate) const STRICT_OPTION: &str = "End with status 1 if there is a warning";
-
 pub(crate) const JSON_OPTION: &str = "Write each line as a JSON object with the same values";
-
-pub(crate) const PARTIAL_OPTION: &str = "Leave out pages that no service can have, with a line
-for each";

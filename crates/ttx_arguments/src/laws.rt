@@ -1,6 +1,6 @@
 //! What some words ask for, computed from the definitions: examples that hold the grammar and the orders to what a user types.
 
-ghost use Rattle.ttx_arguments.specs.Examples.{VersionWords, CertifyWords, SendWords, PlanWords, SecondsTexts, FindWords, RepeatWords, SpliceWords, WaitWords, MonitorWords, PreviewWords, ReplayWords, AirWords, ComposeWords, TwiceWords};
+ghost use Rattle.ttx_arguments.specs.Examples.{VersionWords, CertifyWords, SendWords, PlanWords, SecondsTexts, FindWords, RepeatWords, SpliceWords, WaitWords, MonitorWords, ExplainWords, TwiceWords};
 
 /// `--version` and `-V` ask for the version, also before other words.
 pub fn version_words()
@@ -8,7 +8,7 @@ pub fn version_words()
 {}
 
 /// `certify` with `--late` asks for the verdict on late receivers, and not to read the cycle twice; half a second is 25 fields, and goes
-/// with neither `--twice` nor `--late`; `--numbers` goes with `--late` alone, and `--all` with `--json` alone.
+/// with neither `--twice` nor `--late`; `--numbers` goes with `--late` alone, and `--all` goes alone.
 pub fn certify_words()
     ensures { CertifyWords }
 {}
@@ -49,29 +49,14 @@ pub fn wait_words()
     ensures { WaitWords }
 {}
 
-/// `monitor` takes the slot with which the feed begins, and no slot is not 0; the feed is an input. `--rows` goes neither with `--all` nor with `--every`.
+/// `monitor` takes the slot with which the feed begins, and no slot is not 0; the feed is an input. `--all` and `--every` go together.
 pub fn monitor_words()
     ensures { MonitorWords }
 {}
 
-/// `preview` takes a page or `--all`, not both and not neither.
-pub fn preview_words()
-    ensures { PreviewWords }
-{}
-
-/// `replay` writes words by default.
-pub fn replay_words()
-    ensures { ReplayWords }
-{}
-
-/// `air` takes seconds, or a log with `--replay`; it begins now, has no end and is late unless the words say otherwise.
-pub fn air_words()
-    ensures { AirWords }
-{}
-
-/// `compose` reads standard input and writes standard output.
-pub fn compose_words()
-    ensures { ComposeWords }
+/// `explain` takes a reason, and `pages` an option without a value.
+pub fn explain_words()
+    ensures { ExplainWords }
 {}
 
 /// Two inputs cannot both be standard input, nor can a cycle that is read twice.

@@ -1,11 +1,10 @@
 //! The words after the name of the program `ttx`: what they ask for, and why they are refused.
 #![tactic(auto)]
 
-mod airings;
 mod arguments;
 mod command_names;
 mod commands;
-mod conditions;
+mod conflicts;
 mod grammar;
 mod help;
 mod laws;
@@ -18,17 +17,16 @@ mod seconds;
 mod timings;
 mod values;
 
-pub use conditions::{Condition, unmet_line};
+pub use conflicts::{Conflict, conflict_line};
 pub use laws::{
-    air_words, certify_words, compose_words, find_words, monitor_words, plan_words, preview_words,
-    repeat_words, replay_words, seconds_texts, send_words, splice_words, twice_words,
-    version_words, wait_words,
+    certify_words, explain_words, find_words, monitor_words, plan_words, repeat_words,
+    seconds_texts, send_words, splice_words, twice_words, version_words, wait_words,
 };
 pub use moments::Moment;
 pub use orders::{
-    AirOrder, AirReplayOrder, CertifyOrder, CheckOrder, Clock, FindOrder, Look, MonitorOrder,
-    Order, PlanOrder, ReceiverKind, RefuteOrder, ReplayForm, ReplayOrder, ReportOrder, SendOrder,
-    Sending, SpliceOrder, Start, Timing, Tuning, WaitOrder, WordsFault,
+    CertifyOrder, Clock, FindOrder, Look, MonitorOrder, Order, PlanOrder, ReceiverKind,
+    RefuteOrder, ReplayOrder, SendOrder, Sending, SpliceOrder, Start, Timing, Tuning, WaitOrder,
+    WordsFault,
 };
 pub use parsing::words;
 pub use ranges::{Fields, Lines, Offset, Repeat};

@@ -1,6 +1,6 @@
 //! What words ask for, and why they are refused.
 
-use crate::conditions::Condition;
+use crate::conflicts::Conflict;
 use crate::moments::Moment;
 use crate::ranges::{Fields, Lines, Offset, Repeat};
 use ttx_page::{Class, Selection};
@@ -123,8 +123,6 @@ pub struct CertifyOrder<'a> {
     pub within: Option<Fields>,
     /// Whether each page has a line with its first reason; not with `late`, `twice` or `within`.
     pub all: bool,
-    /// Whether the answer is written as JSON.
-    pub json: bool,
 }
 
 /// What `refute` is asked for.
@@ -135,19 +133,6 @@ pub struct RefuteOrder<'a> {
     pub certificate: &'a str,
     /// The file that the counter-run goes to.
     pub save: Option<&'a str>,
-    /// Whether the answer is written as JSON.
-    pub json: bool,
-}
-
-/// How a counter-run is shown.
-#[derive(Clone, Copy)]
-pub enum ReplayForm {
-    /// The cells of each row that differs, a word each.
-    Words,
-    /// The page as authored beside what is shown, in characters.
-    Text,
-    /// The same as an HTML page.
-    Html,
 }
 
 /// What `replay` is asked for.
@@ -156,18 +141,6 @@ pub struct ReplayOrder<'a> {
     pub cycle: &'a str,
     pub service: &'a str,
     pub counter: &'a str,
-    pub form: ReplayForm,
-}
-
-/// What `report` is asked for.
-#[derive(Clone, Copy)]
-pub struct ReportOrder<'a> {
-    pub cycle: &'a str,
-    pub service: &'a str,
-    pub certificate: &'a str,
-    pub out: &'a str,
-    /// The date that stands in the report; without it, none.
-    pub date: Option<&'a str>,
 }
 
 /// What `splice` is asked for.
@@ -196,8 +169,6 @@ pub struct WaitOrder<'a> {
     pub items: bool,
     /// Whether each number with several pages has a line, too.
     pub numbers: bool,
-    /// Whether the answer is written as JSON.
-    pub json: bool,
 }
 
 /// What `monitor` is asked for.
@@ -214,52 +185,6 @@ pub struct MonitorOrder<'a> {
     pub all: bool,
     /// After so many fields there is a line of state, again and again; without it, none.
     pub every: Option<Fields>,
-    /// Whether the rule by rows is asked for; not with `all` or `every`.
-    pub rows: bool,
-    /// Whether the answer is written as JSON.
-    pub json: bool,
-}
-
-/// What `air` is asked for.
-#[derive(Clone, Copy)]
-pub struct AirOrder<'a> {
-    /// The file that is looked at for changes.
-    pub service: &'a str,
-    /// The deadline of each edition.
-    pub within: Fields,
-    pub repeat: Repeat,
-    pub timing: Timing<'a>,
-    /// How many fields are sent; without it, there is no end.
-    pub fields: Option<u32>,
-    /// For receivers that may show pages late, too.
-    pub late: bool,
-    pub spread: bool,
-    /// The file that the log goes to, too.
-    pub log: Option<&'a str>,
-    /// Whether packets are written to a terminal, too.
-    pub force: bool,
-}
-
-/// What `air --replay` is asked for.
-#[derive(Clone, Copy)]
-pub struct AirReplayOrder<'a> {
-    /// The folder of the texts that the log names.
-    pub texts: &'a str,
-    pub log: &'a str,
-    /// Whether packets are written to a terminal, too.
-    pub force: bool,
-}
-
-/// What `check` is asked for.
-#[derive(Clone, Copy)]
-pub struct CheckOrder<'a> {
-    pub service: &'a str,
-    /// Whether each line is followed by the place in the text, also where standard output is no terminal; not with `json`.
-    pub long: bool,
-    /// Whether a warning makes the status 1.
-    pub strict: bool,
-    /// Whether the answer is written as JSON.
-    pub json: bool,
 }
 
 /// A command with its values.
@@ -296,28 +221,14 @@ pub enum Order<'a> {
         selection: Selection,
         look: Look<'a>,
     },
-    /// Show each page of a service before it is sent.
-    PreviewAll {
-        service: &'a str,
-        /// Not SVG or HTML.
-        form: Form,
-        /// Whether concealed characters are shown.
-        reveal: bool,
-    },
     /// Judge the change from an old cycle to a new one.
     Splice(SpliceOrder<'a>),
     /// Tell how long viewers of each page of a service wait.
     Wait(WaitOrder<'a>),
     /// Send a cycle again and again, with the time.
     Send(SendOrder<'a>),
-    /// Keep a service on the air, with its changes.
-    Air(AirOrder<'a>),
-    /// Send again what a log of `air` says that it sent.
-    AirReplay(AirReplayOrder<'a>),
     /// Judge what a receiver got of a cycle.
     Monitor(MonitorOrder<'a>),
-    /// Write a report of a verdict.
-    Report(ReportOrder<'a>),
     /// Tell which pages a cycle has.
     Pages {
         cycle: &'a str,
@@ -334,20 +245,10 @@ pub enum Order<'a> {
         cycle: &'a str,
         out: &'a str,
         lines: Lines,
-        /// Whether pages that cannot be said are left out.
-        partial: bool,
     },
     /// Tell what is wrong, or likely wrong, in the text of a service.
-    Check(CheckOrder<'a>),
-    /// Make a service text of an author's text. `-` as `out` is standard output.
-    Compose {
-        author: &'a str,
-        out: &'a str,
-    },
-    /// Make an author's text of a service text. `-` as `out` is standard output.
-    Decompose {
+    Check {
         service: &'a str,
-        out: &'a str,
     },
     /// Explain a reason, by its number or its name.
     Explain {
@@ -380,8 +281,6 @@ pub enum WordsFault {
     Numbers,
     /// 10. The clock in page headers is given as half hours and as a time zone.
     Clocks,
-    /// 11. Arguments of the command do not go together, or one is missing.
-    Unmet(Condition),
-    /// 12. All pages are asked for as SVG or HTML, which are forms of one page.
-    Forms,
+    /// 11. Two arguments of the command do not go together.
+    Apart(Conflict),
 }

@@ -24,7 +24,7 @@ use Rattle.ttx_certificate.specs.declared.certificate_faults.CertFault.TheVarian
 use Rattle.ttx_files.specs.declared.faults.FilesFault.{FilesFault}
 use Rattle.ttx_files.specs.declared.faults.FilesFault.TheVariants.{Cycle, Service, Certificate, Read, TooLong, Write, NoMemory}
 use Rattle.ttx_files.specs.declared.faults.TextFile.TheVariants as text
-use Rattle.ttx_arguments.specs.Conditions.{unmet_line}
+use Rattle.ttx_arguments.specs.Conflicts.{conflict_line}
 use Rattle.ttx_arguments.specs.declared.orders.WordsFault.{WordsFault}
 use Rattle.ttx_arguments.specs.declared.orders.WordsFault.TheVariants as words
 use Rattle.ttx_tool.specs.declared.faults.ToolFault.{ToolFault}
@@ -176,6 +176,5 @@ ReportsWords words.Within old new result = Reports (codes "refused: within" ++ 1
 ReportsWords words.Numbers old new result = Reports (codes "refused: numbers" ++ 10 ∷ []) 2 old new result
 ReportsWords words.Clocks old new result = Reports (codes "refused: clocks" ++ 10 ∷ []) 2 old new result
 ReportsWords words.Twice old new result = Reports (codes "refused: twice" ++ 10 ∷ []) 2 old new result
-ReportsWords (words.Unmet condition) old new result = Reports (unmet_line condition) 2 old new result
-ReportsWords words.Forms old new result = Reports (codes "refused: forms" ++ 10 ∷ []) 2 old new result
+ReportsWords (words.Apart conflict) old new result = Reports (conflict_line conflict) 2 old new result
 ReportsWords words.NoMemory old new result = Reports (fault_line (Files NoMemory)) 3 old new result

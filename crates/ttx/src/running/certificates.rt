@@ -3,7 +3,7 @@
 use super::Outcome;
 use super::inputs::{Claim, ClaimReaders, SentService, SentServiceReaders, buffered};
 use crate::devices::{Input, create_out, open_input};
-use crate::reports::{not_built, report, status_of};
+use crate::reports::{report, status_of};
 use std::fs::File;
 use std::io;
 use std::io::BufReader;
@@ -109,9 +109,6 @@ fn certify_twice(rt: &HostRuntime, first: Input, claim: Claim) -> Result<u8, Too
 
 /// Opens the cycle, once more where it is read twice, the service and the certificate, and judges the cycle by the certificate.
 pub fn certify(rt: &HostRuntime, order: &CertifyOrder<'_>) -> Outcome {
-    if order.json {
-        return Ok(not_built(rt));
-    }
     if order.twice && !order.late {
         let first = open_input(rt, order.cycle)?;
         let claim = Claim::open(rt, order.cycle, order.service, order.certificate)?;
@@ -243,9 +240,6 @@ fn wait_for(rt: &HostRuntime, inputs: SentService, order: &WaitOrder<'_>) -> Res
 
 /// Opens the cycle and the service, and tells how long viewers of each page wait.
 pub fn wait(rt: &HostRuntime, order: &WaitOrder<'_>) -> Outcome {
-    if order.json {
-        return Ok(not_built(rt));
-    }
     let inputs = SentService::open(rt, order.cycle, order.service)?;
     Ok(status_of(rt, wait_for(rt, inputs, order)))
 }

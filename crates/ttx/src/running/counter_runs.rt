@@ -3,10 +3,10 @@
 use super::Outcome;
 use super::inputs::{Claim, ClaimReaders};
 use crate::devices::create_out;
-use crate::reports::{not_built, report, status_of};
+use crate::reports::{report, status_of};
 use std::io;
 use std::io::Write;
-use ttx_arguments::{RefuteOrder, ReplayForm, ReplayOrder};
+use ttx_arguments::{RefuteOrder, ReplayOrder};
 use ttx_cycle::Counted;
 use ttx_tool::{ToolFault, commands};
 
@@ -42,9 +42,6 @@ fn refute_claim<O: Write + Drop>(
 
 /// Opens the cycle, the service and the certificate, makes the counter-run's file anew where it is named, and refutes.
 pub fn refute(rt: &HostRuntime, order: &RefuteOrder<'_>) -> Outcome {
-    if order.json {
-        return Ok(not_built(rt));
-    }
     let claim = Claim::open(rt, order.cycle, order.service, order.certificate)?;
     let Some(out) = order.save else {
         return Ok(status_of(rt, refute_claim(rt, claim, false, io::sink())));
@@ -75,9 +72,6 @@ fn replay_claim(rt: &HostRuntime, claim: Claim) -> Result<u8, ToolFault> {
 
 /// Opens the cycle, the service and the counter-run, and shows what is shown after it.
 pub fn replay(rt: &HostRuntime, order: &ReplayOrder<'_>) -> Outcome {
-    let ReplayForm::Words = order.form else {
-        return Ok(not_built(rt));
-    };
     let claim = Claim::open(rt, order.cycle, order.service, order.counter)?;
     Ok(status_of(rt, replay_claim(rt, claim)))
 }

@@ -3,11 +3,11 @@
 use super::Outcome;
 use super::inputs::buffered;
 use crate::devices::{Input, create_out, open_input};
-use crate::reports::{not_built, report, status_of};
+use crate::reports::{report, status_of};
 use std::fs::File;
 use std::io;
 use std::io::BufReader;
-use ttx_arguments::{CheckOrder, PlanOrder};
+use ttx_arguments::PlanOrder;
 use ttx_cycle::Counted;
 use ttx_plan::Receivers;
 use ttx_promise::Viewers;
@@ -20,11 +20,8 @@ fn check_input(rt: &HostRuntime, input: Input) -> Result<u8, ToolFault> {
 }
 
 /// Opens the service, and tells what is wrong, or likely wrong, in its text.
-pub fn check(rt: &HostRuntime, order: &CheckOrder<'_>) -> Outcome {
-    if order.long || order.strict || order.json {
-        return Ok(not_built(rt));
-    }
-    Ok(status_of(rt, check_input(rt, open_input(rt, order.service)?)))
+pub fn check(rt: &HostRuntime, service: &str) -> Outcome {
+    Ok(status_of(rt, check_input(rt, open_input(rt, service)?)))
 }
 
 fn plan_to(

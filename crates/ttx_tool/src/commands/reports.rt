@@ -13,7 +13,7 @@ ghost use Rattle.ttx_tool.specs.Reports.{refused_service, air_line, fault_line, 
 use crate::faults::{AirRefusal, CounterFileFault, ToolFault};
 use std::alloc::{AllocError, Global};
 use std::io::Write;
-use ttx_arguments::{WordsFault, unmet_line};
+use ttx_arguments::{WordsFault, conflict_line};
 use ttx_counter::CounterFault;
 use ttx_cycle::{Counted, CycleFault};
 use ttx_extract::{ExtractFault, push_refusal};
@@ -329,13 +329,12 @@ pub fn report_words<W: Write>(
         WordsFault::Numbers => write_text(writer, "refused: numbers\n", 2),
         WordsFault::Clocks => write_text(writer, "refused: clocks\n", 2),
         WordsFault::Twice => write_text(writer, "refused: twice\n", 2),
-        WordsFault::Unmet(condition) => {
-            let Ok(line) = unmet_line(alloc, *condition) else {
+        WordsFault::Apart(conflict) => {
+            let Ok(line) = conflict_line(alloc, *conflict) else {
                 return Err(ToolFault::Files(FilesFault::NoMemory));
             };
             write_text(writer, line.as_str(), 2)
         }
-        WordsFault::Forms => write_text(writer, "refused: forms\n", 2),
         WordsFault::NoMemory => report(alloc, &ToolFault::Files(FilesFault::NoMemory), writer),
     }
 }
