@@ -247,6 +247,29 @@ def checked_services():
         "check-quotation.toml": head + page.format(100) + 'head = "NEWS\n',
         "check-misspelt.toml": "liens = 3\n" + head + info + 'netwrk = "0000"\n' + page.format(100) + "ofen = 2\ncolour = 7\n\"a\\u000Ab\" = 1\n",
         "check-warnings.toml": warned,
+        "check-signs.toml": (
+            'lines = 4\n'
+            'serial = false\n'
+            '[[page]]\n'
+            'number = "1AB"\n'
+            'sub = "000A"\n'
+            'head = "News #1"\n'
+            'row24 = true\n'
+            '[page.rows]\n'
+            '1 = "Costs 5 # and _x_"\n'
+            "2 = '\\u0001Red'\n"
+            '3 = "\\u000B\\u000Bbox"\n'
+            '4 = "\\u0011#\\u0007#"\n'
+            '[[page]]\n'
+            'number = "100"\n'
+            'option = 1\n'
+            '[page.rows]\n'
+            '1 = "# [a]"\n'
+            '[[page]]\n'
+            'number = "101"\n'
+            '1 = "a row"\n'
+            'often = 1\n'
+        ),
         "check-serial.toml": "lines = 2\nserial = true\n" + page.format(100) + page.format(101) + page.format(200),
         "check-inline.toml": 'page = [{number = "100", rows = {3 = "A"}}, # two pages\n  {number = "101", links = [\n    "100", "1/0"]}]\n' + head,
     }

@@ -1,7 +1,7 @@
 #!/usr/bin/env python3
 """Runs `pages` and `book` over the cycles of tests/data and over cycles of random slots. The lines of `pages` are
 those of a plain reader in this script. A book must be XML and have each page except time-filling ones once, in this order, and its
-index must lead to each of them.
+index must lead to each of them. Where the slots are no packets the status is 1, and standard error has the line of recognised.py.
 
 usage: pages.py PROGRAM [COUNT]
 """
@@ -13,6 +13,7 @@ import xml.etree.ElementTree as tree
 from collections import Counter
 from pathlib import Path
 
+from recognised import line
 from sent import WORDS, number, odd, random_slot
 
 DATA = Path(__file__).resolve().parent / "data"
@@ -101,14 +102,23 @@ def random_cycle(chance):
     return b"".join(cycle)
 
 
+def told_by(words, name, data):
+    """The standard output of a command over a cycle of these bytes."""
+    ran = subprocess.run(words, capture_output=True)
+    wanted = line(data)
+    if ran.stderr.decode() != wanted or ran.returncode != (1 if wanted else 0):
+        sys.exit(f"pages: {words[1]} of {name}: status {ran.returncode} and {ran.stderr}, not {wanted!r}")
+    return ran.stdout
+
+
 def compare(program, name, data, folder):
     cycle_file, book_file = folder / "cycle.t42", folder / "book.html"
     cycle_file.write_bytes(data)
     wanted, names = plain_pages([data[at : at + 42] for at in range(0, len(data), 42)])
-    told = subprocess.run([program, "pages", str(cycle_file)], capture_output=True, check=True).stdout
+    told = told_by([program, "pages", str(cycle_file)], name, data)
     if told != wanted.encode():
         sys.exit(f"pages: {name}: something else is told")
-    printed = subprocess.run([program, "book", str(cycle_file), str(book_file)], capture_output=True, check=True).stdout
+    printed = told_by([program, "book", str(cycle_file), str(book_file)], name, data)
     elements = list(tree.parse(book_file).iter())
     ids = [element.get("id") for element in elements if element.get("id")]
     index = next(element for element in elements if element.get("class") == "i")
