@@ -96,6 +96,26 @@ sed 's/0001Storm /0003Sunny /' broadcast.toml > tomorrow.toml
 run plan tomorrow.toml tomorrow.t42
 run find tomorrow.t42 tomorrow.toml tomorrow.cert
 run splice broadcast.t42 tomorrow.t42 broadcast.toml tomorrow.toml broadcast.cert tomorrow.cert
+echo "The same on the air: the author saves tomorrow's text, and the air follows once the old pages have been sent for a deadline."
+# gives a text to `air` when it looks at its service next
+save() {
+    exec 3> service
+    mkfifo next
+    mv next service
+    cat "$1" >&3
+    exec 3>&-
+}
+mkfifo service
+{ save broadcast.toml; while :; do save tomorrow.toml; done; } &
+author=$!
+echo "\$ ttx air service --within 5 --at 61369/110000 --offset 2 --fields 375 > air.t42"
+"$program" air service --within 5 --at 61369/110000 --offset 2 --fields 375 2>&1 > air.t42 | cut -c 1-77
+kill $author
+echo
+echo "What a receiver shows of the last seconds."
+echo "\$ tail -c 126000 air.t42 > end.t42"
+tail -c 126000 air.t42 > end.t42
+look show end.t42 131 --lines 12
 echo "All pages as one HTML file for a browser, with an index: three typed digits lead to a page."
 run book broadcast.t42 broadcast.html
 show ls broadcast.html

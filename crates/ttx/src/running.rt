@@ -1,5 +1,6 @@
 //! Runs an order: opens what it names, and gives it to its command.
 
+mod airs;
 mod certificates;
 mod counter_runs;
 mod cycles;
@@ -51,7 +52,8 @@ pub fn run_order(rt: &HostRuntime, order: &Order<'_>) -> Outcome {
         Order::Splice(order) => splices::splice(rt, order),
         Order::Wait(order) => certificates::wait(rt, order),
         Order::Send(order) => sends::send(rt, order),
-        Order::Air(_) | Order::AirReplay(_) | Order::Report(_) => Ok(not_built(rt)),
+        Order::Air(order) => airs::air(rt, order),
+        Order::AirReplay(_) | Order::Report(_) => Ok(not_built(rt)),
         Order::Compose { .. } | Order::Decompose { .. } | Order::Explain { .. } => {
             Ok(not_built(rt))
         }

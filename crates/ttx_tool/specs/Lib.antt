@@ -1,4 +1,5 @@
 pub mod Devices
+pub mod Air
 pub mod Answers
 pub mod Certify
 pub mod Texts
