@@ -10,6 +10,7 @@ pub mod Show
 pub mod Plan
 pub mod Promised
 pub mod Preview
+pub mod PreviewAll
 pub mod Extract
 pub mod Find
 pub mod FindDeadline

@@ -17,6 +17,7 @@ pub mod pages;
 pub mod plan;
 pub mod plan_spread;
 pub mod preview;
+pub mod preview_all;
 mod promised;
 pub mod receive;
 pub mod refute;

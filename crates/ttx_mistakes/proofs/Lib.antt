@@ -1,0 +1,4 @@
+mod Values
+mod Rows
+mod Pages
+mod Whole

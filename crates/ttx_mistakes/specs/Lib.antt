@@ -1,0 +1,10 @@
+pub mod Checking
+pub mod KeyNotes
+pub mod Laws
+pub mod LongLines
+pub mod LongReports
+pub mod MistakeViews
+pub mod Mistakes
+pub mod NoteViews
+pub mod Notes
+pub mod WarningNotes
