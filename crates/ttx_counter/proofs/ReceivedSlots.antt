@@ -24,7 +24,7 @@ hit_by keys sorted n from to c s sent received f = record {
   other = λ x none. f.other x (λ i low high e. none i (let w = s.within in omega arith) (s.own i low high) e);
 }
 
-script_more : (r : Script) (received : List (List ℕ)) (slot : List ℕ) → script_after r (received ++ slot ∷ [])
+pub script_more : (r : Script) (received : List (List ℕ)) (slot : List ℕ) → script_after r (received ++ slot ∷ [])
     ≡ script_step (script_after r received) slot
 unfolding script_after
 script_more r [] slot = refl
@@ -37,20 +37,20 @@ unfolding script_after
 script_memory r [] = refl
 script_memory r (x ∷ received) = script_memory (script_step r x) received
 
-get_before : (xs : List (List ℕ)) (y : List ℕ) (i : ℕ) → i < length xs → get_or (xs ++ y ∷ []) i [] ≡ get_or xs i []
+pub get_before : (xs : List (List ℕ)) (y : List ℕ) (i : ℕ) → i < length xs → get_or (xs ++ y ∷ []) i [] ≡ get_or xs i []
 get_before [] y i lt = absurd (omega arith)
 get_before (x ∷ xs) y ℕ.zero lt = refl
 get_before (x ∷ xs) y (suc i) lt = get_before xs y i (omega arith)
 
-get_last : (xs : List (List ℕ)) (y : List ℕ) → get_or (xs ++ y ∷ []) (length xs) [] ≡ y
+pub get_last : (xs : List (List ℕ)) (y : List ℕ) → get_or (xs ++ y ∷ []) (length xs) [] ≡ y
 get_last [] y = refl
 get_last (x ∷ xs) y = get_last xs y
 
-pub heard_none : (s : Stream) (start : ℕ) (keys : List ℕ) (r : Script) → IsHeard s start 0 keys r r
+unfoldable pub heard_none : (s : Stream) (start : ℕ) (keys : List ℕ) (r : Script) → IsHeard s start 0 keys r r
 unfolding script_after
 heard_none s start keys r = record { received = []; count = refl; each = λ i lt. absurd (omega arith); reached = refl }
 
-pub heard_more : (s : Stream) (start n : ℕ) (keys : List ℕ) (old now new : Script) (slot : List ℕ) →
+unfoldable pub heard_more : (s : Stream) (start n : ℕ) (keys : List ℕ) (old now new : Script) (slot : List ℕ) →
     IsHitBy keys n (s (pos start +ℤ pos n)) slot → new ≡ script_step now slot → IsHeard s start n keys old now →
     IsHeard s start (n + 1) keys old new
 heard_more s start n keys old now new slot hit step h = record {

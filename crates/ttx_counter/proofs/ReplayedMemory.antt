@@ -18,7 +18,7 @@ use Rattle.ttx_counter.proofs.CheckIsExact.{slots_are, same_page}
 use Rattle.ttx_counter.proofs.HitsKeepTheRule as E
 use Rattle.ttx_counter.proofs.ReceivedSlots.{script_memory}
 
-pub left : (s : Stream) (keys : List ℕ) (p : Page) (c : CounterRun) (m : Memory) (old new : Script) → IsHeard s c.start c.slots keys old new →
+unfoldable pub left : (s : Stream) (keys : List ℕ) (p : Page) (c : CounterRun) (m : Memory) (old new : Script) → IsHeard s c.start c.slots keys old new →
     old ≡ script_at (tuned_at (selection_for c.any_sub p.id) c.lines c.former) c.choices → m ≡ new.tuned.memory → IsLeft s keys p c m
 left s keys p c m old new h is e = record {
   received = h.received;
@@ -39,15 +39,20 @@ module _ (cycle : List (List ℕ)) (pages : List Page) (c : CounterRun) (keys : 
   heard : (i : ℕ) → i < c.slots → IsHitBy keys i (repeated cycle (pos c.start +ℤ pos i)) (get_or is.received i [])
   heard i lt = hits_to (repeated cycle) c.start c.slots c.hits keys is.hits.each same i _ _ (is.with_hits.each i lt)
 
-  pub replayed : EachSlotTurns → IsCycle cycle → (p : Page) (m : Memory) → slice_get pages c.page ≡ Some p →
+  pub same_received : EachSlotTurns → IsCycle cycle → (p : Page) (m : Memory) → slice_get pages c.page ≡ Some p →
+      (l : IsLeft (repeated cycle) keys p c m) → (p ≡ is.page) × (l.received ≡ is.received)
+  same_received turns is_cycle p m here l = (
+    same_page pages c.page p is.page here is.here,
+    E.only_list (repeated cycle) (slots_are turns cycle is_cycle) p.id c.start c.slots c.repeat keys each l.received is.received
+        l.count is.with_hits.count l.each heard,
+  )
+
+  unfoldable pub replayed : EachSlotTurns → IsCycle cycle → (p : Page) (m : Memory) → slice_get pages c.page ≡ Some p →
       IsLeft (repeated cycle) keys p c m → IsReplayed cycle pages c m
   replayed turns is_cycle p m here l =
-      let q : p ≡ is.page = same_page pages c.page p is.page here is.here in
-      let rs : l.received ≡ is.received =
-      E.only_list (repeated cycle) (slots_are turns cycle is_cycle) p.id c.start c.slots c.repeat keys each l.received is.received
-      l.count is.with_hits.count l.each heard in
+      let e = same_received turns is_cycle p m here l in
       record {
         is = is;
-        memory = l.memory ∙ ap (λ x. scripted Any c.lines (selection_for c.any_sub x.id) c.choices c.former l.received) q
-            ∙ ap (scripted Any c.lines (selection_for c.any_sub is.page.id) c.choices c.former) rs;
+        memory = l.memory ∙ ap (λ x. scripted Any c.lines (selection_for c.any_sub x.id) c.choices c.former l.received) e.0
+            ∙ ap (scripted Any c.lines (selection_for c.any_sub is.page.id) c.choices c.former) e.1;
       }

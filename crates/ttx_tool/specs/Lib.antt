@@ -16,6 +16,8 @@ pub mod FindDeadline
 pub mod Refute
 pub mod UnlikeViews
 pub mod Replay
+pub mod ReplayPage
+pub mod ReportDocument
 pub mod Monitor
 pub mod Reports
 pub mod PlannedFiles

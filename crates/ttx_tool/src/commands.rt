@@ -21,6 +21,8 @@ mod promised;
 pub mod receive;
 pub mod refute;
 pub mod replay;
+pub mod replay_page;
+pub mod report_document;
 mod reports;
 pub mod send;
 pub mod show;

@@ -54,8 +54,29 @@ pub fn refute(rt: &HostRuntime, order: &RefuteOrder<'_>) -> Outcome {
 }
 
 // The status is 0 where the text is that of a counter-run, else 1.
-fn replay_readers(rt: &HostRuntime, readers: &mut ClaimReaders) -> Result<u8, ToolFault> {
+fn replay_readers(rt: &HostRuntime, readers: &mut ClaimReaders, name: &str) -> Result<u8, ToolFault> {
     let mut writer = Counted::new(io::writer(rt));
+    if name.ends_with(".cert") {
+        return commands::report_document::run(
+            rt.alloc(),
+            &mut readers.cycle,
+            &mut readers.service,
+            &mut readers.text,
+            Some("5 < 6 & so on"),
+            &mut writer,
+        );
+    }
+    if !name.ends_with(".words") {
+        let form = if name.ends_with(".html") { ttx_failure::FailureForm::Html } else { ttx_failure::FailureForm::Text };
+        return commands::replay_page::run(
+            rt.alloc(),
+            &mut readers.cycle,
+            &mut readers.service,
+            &mut readers.text,
+            form,
+            &mut writer,
+        );
+    }
     commands::replay::run(
         rt.alloc(),
         &mut readers.cycle,
@@ -65,13 +86,13 @@ fn replay_readers(rt: &HostRuntime, readers: &mut ClaimReaders) -> Result<u8, To
     )
 }
 
-fn replay_claim(rt: &HostRuntime, claim: Claim) -> Result<u8, ToolFault> {
+fn replay_claim(rt: &HostRuntime, claim: Claim, name: &str) -> Result<u8, ToolFault> {
     let mut readers = claim.readers(rt)?;
-    replay_readers(rt, &mut readers)
+    replay_readers(rt, &mut readers, name)
 }
 
 /// Opens the cycle, the service and the counter-run, and shows what is shown after it.
 pub fn replay(rt: &HostRuntime, order: &ReplayOrder<'_>) -> Outcome {
     let claim = Claim::open(rt, order.cycle, order.service, order.counter)?;
-    Ok(status_of(rt, replay_claim(rt, claim)))
+    Ok(status_of(rt, replay_claim(rt, claim, order.counter)))
 }

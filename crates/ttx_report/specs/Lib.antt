@@ -1,0 +1,4 @@
+pub mod Verdicts
+pub mod Waits
+pub mod Files
+pub mod Reports
