@@ -3,6 +3,7 @@
 mod certificates;
 mod counter_runs;
 mod cycles;
+mod desks;
 mod feeds;
 mod inputs;
 mod screens;
@@ -52,9 +53,9 @@ pub fn run_order(rt: &HostRuntime, order: &Order<'_>) -> Outcome {
         Order::Wait(order) => certificates::wait(rt, order),
         Order::Send(order) => sends::send(rt, order),
         Order::Air(_) | Order::AirReplay(_) | Order::Report(_) => Ok(not_built(rt)),
-        Order::Compose { .. } | Order::Decompose { .. } | Order::Explain { .. } => {
-            Ok(not_built(rt))
-        }
+        Order::Compose { author, out } => desks::compose(rt, author, out),
+        Order::Decompose { service, out } => desks::decompose(rt, service, out),
+        Order::Explain { .. } => Ok(not_built(rt)),
         Order::Monitor(order) => feeds::monitor(rt, order),
         Order::Pages { json: true, .. } => Ok(not_built(rt)),
         Order::Pages { cycle, .. } => cycles::pages(rt, cycle),

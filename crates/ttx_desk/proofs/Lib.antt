@@ -4,3 +4,7 @@ mod PageItems
 mod Deepest
 mod Got
 mod SeenTexts
+mod OptionNames
+mod Appends
+mod SignSteps
+mod ComposedAgain

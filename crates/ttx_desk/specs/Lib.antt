@@ -6,6 +6,10 @@ pub mod Rows
 pub mod Pages
 pub mod Services
 pub mod Said
+pub mod Places
+pub mod Words
 pub mod Composing
+pub mod MistakeLines
 pub mod Decomposing
 pub mod Seen
+pub mod Again

@@ -84,7 +84,7 @@ impl Reader {
 }
 
 /// For each header `[[page]]` the lines of comments before it.
-pub fn page_comments(alloc: Global, text: &str) -> Result<Vec<String>, AllocError> {
+pub(crate) fn page_comments(alloc: Global, text: &str) -> Result<Vec<String>, AllocError> {
     let mut reader = Reader {
         pages: Vec::new(alloc),
         waiting: String::new(alloc),

@@ -54,16 +54,18 @@ pub(crate) fn plain_text(alloc: Global, table: &Table) -> Option<String>
     }
 }
 
-// Whether a text is read as the table of a plain text.
-fn is_read_as(alloc: Global, text: &str, plain: &str) -> bool
-    ensures { IsTrue result → parse_document text.now ≡ parse_document plain.now }
+// Whether a text is read as the table of a plain text. A table that is read is not too deep to be printed.
+fn is_read_as(alloc: Global, text: &str, plain: &str) -> Result<bool, AllocError>
+    ensures { IfOk result (λ read. IsTrue read → parse_document text.now ≡ parse_document plain.now) }
 {
-    let Ok(table) = toml::table_from_str(alloc, text) else {
-        return false;
+    let table = match toml::table_from_str(alloc, text) {
+        Ok(table) => table,
+        Err(error) if error.is_memory() => return Err(AllocError),
+        Err(_) => return Ok(false),
     };
     match plain_text(alloc, &table) {
-        Some(again) => again.as_str() == plain,
-        None => false,
+        Some(again) => Ok(again.as_str() == plain),
+        None => Err(AllocError),
     }
 }
 
@@ -125,8 +127,11 @@ fn service_text(
     ensures comment { IfOk result (λ text. rule.BeginsWith (rule.first_comment source.now) (string_bytes text)) }
     ensures refused { IfErr result rule.IsUnsaid }
 {
-    let Some(plain) = plain_text(alloc, table) else {
+    if !is_within(table, 80) {
         return Err(ComposeFault::Unsaid);
+    }
+    let Some(plain) = plain_text(alloc, table) else {
+        return Err(ComposeFault::NoMemory);
     };
     let Ok(body) = body(alloc, author, table) else {
         return Err(ComposeFault::NoMemory);
@@ -134,10 +139,10 @@ fn service_text(
     let Ok(text) = with_comment(alloc, source, body.as_str()) else {
         return Err(ComposeFault::NoMemory);
     };
-    if is_read_as(alloc, text.as_str(), plain.as_str()) {
-        Ok(text)
-    } else {
-        bare_text(alloc, plain.as_str(), source)
+    match is_read_as(alloc, text.as_str(), plain.as_str()) {
+        Ok(true) => Ok(text),
+        Ok(false) => bare_text(alloc, plain.as_str(), source),
+        Err(_) => Err(ComposeFault::NoMemory),
     }
 }
 
@@ -150,10 +155,10 @@ fn bare_text(alloc: Global, plain: &str, source: &str) -> Result<String, Compose
     let Ok(text) = with_comment(alloc, source, plain) else {
         return Err(ComposeFault::NoMemory);
     };
-    if is_read_as(alloc, text.as_str(), plain) {
-        Ok(text)
-    } else {
-        Err(ComposeFault::Unsaid)
+    match is_read_as(alloc, text.as_str(), plain) {
+        Ok(true) => Ok(text),
+        Ok(false) => Err(ComposeFault::Unsaid),
+        Err(_) => Err(ComposeFault::NoMemory),
     }
 }
 

@@ -7,11 +7,19 @@ ghost use Rattle.ttx_desk.specs.Composing.{author_in};
 ghost use Rattle.ttx_desk.specs.Decomposing as rule;
 
 use crate::composing::plain_text;
+use crate::depths::is_within;
 use crate::services::service_of;
 use crate::unwriting::author_text;
-use std::alloc::Global;
+use std::alloc::{AllocError, Global};
 use toml::Table;
-use ttx_source::{SourceError, read_service};
+use ttx_source::{Service, SourceError, read_service};
+
+/// An author's text, and the service that it means.
+#[derive(Drop)]
+pub struct Decomposed {
+    pub text: String,
+    pub service: Service,
+}
 
 /// Why there is no author's text.
 #[derive(Clone, Copy)]
@@ -25,21 +33,23 @@ pub enum DecomposeFault {
 }
 
 // Whether an author's text means a table.
-fn means(alloc: Global, author: &str, plain: &str) -> bool
-    ensures { IsTrue result → rule.Means author.now plain.now }
+fn means(alloc: Global, author: &str, plain: &str) -> Result<bool, AllocError>
+    ensures { IfOk result (λ means. IsTrue means → rule.Means author.now plain.now) }
 {
-    let Ok(table) = toml::table_from_str(alloc, author) else {
-        return false;
+    let table = match toml::table_from_str(alloc, author) {
+        Ok(table) => table,
+        Err(error) if error.is_memory() => return Err(AllocError),
+        Err(_) => return Ok(false),
     };
     let Ok(translated) = service_of(alloc, &table) else {
-        return false;
+        return Err(AllocError);
     };
     if !translated.mistakes.is_empty() {
-        return false;
+        return Ok(false);
     }
     match plain_text(alloc, &translated.table) {
-        Some(text) => text.as_str() == plain,
-        None => false,
+        Some(text) => Ok(text.as_str() == plain),
+        None => Err(AllocError),
     }
 }
 
@@ -48,33 +58,51 @@ fn decompose_table(alloc: Global, table: &Table, source: &str) -> Result<String,
     ensures text { IfOk result (λ text. rule.IsAuthorOf (string_bytes text) (table_view table.now)) }
     ensures refused { IfErr result rule.IsUnsaid }
 {
-    let Some(plain) = plain_text(alloc, table) else {
+    if !is_within(table, 80) {
         return Err(DecomposeFault::Unsaid);
+    }
+    let Some(plain) = plain_text(alloc, table) else {
+        return Err(DecomposeFault::NoMemory);
     };
     let Ok(text) = author_text(alloc, table, source) else {
         return Err(DecomposeFault::NoMemory);
     };
-    if means(alloc, text.as_str(), plain.as_str()) {
-        Ok(text)
-    } else {
-        Err(DecomposeFault::Unsaid)
+    match means(alloc, text.as_str(), plain.as_str()) {
+        Ok(true) => Ok(text),
+        Ok(false) => Err(DecomposeFault::Unsaid),
+        Err(_) => Err(DecomposeFault::NoMemory),
     }
 }
 
-/// The author's text of a service text: characters as they are seen, control codes by names, a national option by its name. Its table means
-/// the very table of the service text, so composed again it gives the same service. `source` is the name of the service text. Before it
-/// is answered the text is read again. Comments are not kept.
-pub fn decompose(alloc: Global, service: &[u8], source: &str) -> Result<String, DecomposeFault>
-    ensures { rule.Decomposes service.now result }
+// The author's text of a service text that is accepted.
+fn decompose_text(alloc: Global, service: &[u8], source: &str) -> Result<String, DecomposeFault>
+    ensures text { IfOk result (λ text. rule.IsAuthorText (string_bytes text) service.now) }
+    ensures refused { IfErr result rule.IsUnsaid }
 {
-    if let Err(error) = read_service(alloc, service) {
-        return Err(DecomposeFault::Service(error));
-    }
     let Ok(text) = std::str::from_utf8(service) else {
         return Err(DecomposeFault::Unsaid);
     };
     match toml::table_from_str(alloc, text) {
         Ok(table) => decompose_table(alloc, &table, source),
         Err(_) => Err(DecomposeFault::NoMemory),
+    }
+}
+
+/// The author's text of a service text: characters as they are seen, control codes by names, a national option by its name. Its table means
+/// the very table of the service text, so composed again it gives the same service. `source` is the name of the service text. Before it
+/// is answered the text is read again. Comments are not kept.
+pub fn decompose(alloc: Global, service: &[u8], source: &str) -> Result<Decomposed, DecomposeFault>
+    ensures { rule.Decomposes service.now result }
+{
+    let read = match read_service(alloc, service) {
+        Ok(read) => read,
+        Err(error) => return Err(DecomposeFault::Service(error)),
+    };
+    match decompose_text(alloc, service, source) {
+        Ok(text) => Ok(Decomposed {
+            text,
+            service: read,
+        }),
+        Err(fault) => Err(fault),
     }
 }

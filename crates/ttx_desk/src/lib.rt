@@ -17,9 +17,11 @@ mod services;
 mod tables;
 mod texts;
 mod unwriting;
+mod words;
 mod writing;
+mod wrongs;
 
 pub use composing::{ComposeFault, Composed, compose};
-pub use decomposing::{DecomposeFault, decompose};
-pub use messages::push_mistakes;
+pub use decomposing::{DecomposeFault, Decomposed, decompose};
+pub use messages::{mistakes_report, toml_report};
 pub use mistakes::{Fault, Mistake, Part};

@@ -1,130 +1,235 @@
 //! The place of a character of a value in an author's text.
 
+ghost use Rattle.std.specs.Prelude.{◌≡◌, ◌++◌, not, drop, length, slice_index, Some, IfOk, OnOk, string_bytes};
+ghost use Rattle.std.specs.List.{position};
+ghost use Rattle.ttx_places.specs.Places.{place_of};
+ghost use Rattle.ttx_desk.specs.Places as rule;
+
 use crate::mistakes::{Mistake, Part};
 use std::alloc::{AllocError, Global};
 use ttx_digits::push_decimal;
 use ttx_places::place_of;
 
-// A part of a text in quotation marks: the bytes that it takes, whether it stands for a character, and whether for a line feed.
+/// What a text begins with: the bytes that it takes, whether it stands for a character, and whether for a line feed.
 #[derive(Clone, Copy)]
-struct Sign {
-    size: usize,
-    seen: bool,
-    feed: bool,
+pub struct Sign {
+    pub size: usize,
+    pub seen: bool,
+    pub feed: bool,
 }
 
-const PLAIN: Sign = Sign {
-    size: 1,
-    seen: true,
-    feed: false,
-};
-
 // The byte at a place; 0 behind the end.
-fn byte_at(bytes: &[u8], place: usize) -> u8 {
-    match bytes.get(place) {
+fn byte_at(text: &[u8], place: usize) -> u8
+    ensures { result ≡ slice_index text.now place }
+{
+    match text.get(place) {
         Some(byte) => *byte,
         None => 0,
     }
 }
 
-fn is_white(byte: u8) -> bool {
+// The text behind so many bytes.
+fn behind(text: &[u8], size: usize) -> &[u8]
+    ensures { result.now ≡ drop size text.now }
+{
+    if size < text.len() {
+        &text[size..]
+    } else {
+        &[]
+    }
+}
+
+fn is_white(byte: u8) -> bool
+    ensures { result ≡ rule.is_white byte }
+{
     byte == b' ' || byte == b'\t' || byte == b'\r' || byte == b'\n'
 }
 
-// The end of white space.
-fn behind_white(bytes: &[u8], place: usize) -> usize {
-    let mut end = place;
-    for at in place..bytes.len() {
-        if !is_white(bytes[at]) {
-            return at;
-        }
-        end = at.saturating_add(1);
-    }
-    end
+// Where the white space ends that a text begins with.
+fn white_end(text: &[u8]) -> Option<usize>
+    ensures { result ≡ position (λ c. not (rule.is_white c)) text.now }
+{
+    text.iter().position(|byte| !is_white(*byte))
 }
 
-// The sign that a backslash begins: a line's end that is not seen, or an escape.
-fn escaped(bytes: &[u8], place: usize) -> Sign {
-    let next = place.saturating_add(1);
-    let size = match byte_at(bytes, next) {
-        b' ' | b'\t' | b'\r' | b'\n' => {
-            let end = behind_white(bytes, next);
-            return Sign {
-                size: end.saturating_sub(place),
-                seen: false,
-                feed: false,
-            };
-        }
+// The size of the white space that a text begins with.
+fn white_size(text: &[u8]) -> usize
+    ensures { result ≡ rule.white_size text.now }
+{
+    match white_end(text) {
+        Some(size) => size,
+        None => text.len(),
+    }
+}
+
+// The size of an escape, by the byte behind its backslash.
+fn escape_size(byte: u8) -> usize
+    ensures { result ≡ rule.escape_size byte }
+{
+    match byte {
         b'x' => 4,
         b'u' => 6,
         b'U' => 10,
         _ => 2,
-    };
+    }
+}
+
+// The sign that a backslash before this text begins: a line's end that is not seen, or an escape.
+fn escaped(rest: &[u8]) -> Sign
+    ensures { result ≡ rule.escaped rest.now }
+{
+    let next = byte_at(rest, 0);
+    if is_white(next) {
+        return Sign {
+            size: white_size(rest) + 1,
+            seen: false,
+            feed: false,
+        };
+    }
     Sign {
-        size,
+        size: escape_size(next),
         seen: true,
-        feed: byte_at(bytes, next) == b'n',
+        feed: next == b'n',
     }
 }
 
-// The sign at a place of a text; `basic` if it stands in double quotation marks.
-fn sign_at(bytes: &[u8], place: usize, basic: bool) -> Sign {
-    match byte_at(bytes, place) {
-        b'\\' if basic => escaped(bytes, place),
-        b'\n' => Sign {
-            feed: true,
-            ..PLAIN
-        },
-        byte => Sign {
-            size: match byte {
-                0xf0..=0xff => 4,
-                0xe0..=0xef => 3,
-                0xc0..=0xdf => 2,
-                _ => 1,
-            },
-            ..PLAIN
-        },
+// The size of a character in UTF-8, by its first byte.
+fn utf8_size(byte: u8) -> usize
+    ensures { result ≡ rule.utf8_size byte }
+{
+    match byte {
+        0xf0..=0xff => 4,
+        0xe0..=0xef => 3,
+        0xc0..=0xdf => 2,
+        _ => 1,
     }
 }
 
-// The place of the first sign of the text whose first quotation mark stands here.
-fn text_start(bytes: &[u8], mark: usize) -> usize {
-    let quote = byte_at(bytes, mark);
-    let second = mark.saturating_add(1);
-    if byte_at(bytes, second) != quote || byte_at(bytes, mark.saturating_add(2)) != quote {
-        return second;
+// The sign that a text begins with; `basic` if it stands in double quotation marks.
+fn sign_of(text: &[u8], basic: bool) -> Sign
+    ensures { result ≡ rule.sign_of basic text.now }
+{
+    let first = byte_at(text, 0);
+    if basic && first == b'\\' {
+        return escaped(behind(text, 1));
     }
-    let start = mark.saturating_add(3);
-    match byte_at(bytes, start) {
-        b'\n' => start.saturating_add(1),
-        b'\r' if byte_at(bytes, start.saturating_add(1)) == b'\n' => start.saturating_add(2),
-        _ => start,
+    Sign {
+        size: utf8_size(first),
+        seen: true,
+        feed: first == b'\n',
     }
 }
 
-// The place of a character of the text whose first quotation mark stands at `mark`: the character with this index behind so many line feeds.
-fn character_at(bytes: &[u8], mark: usize, feeds: usize, index: usize) -> usize {
-    let basic = byte_at(bytes, mark) == b'"';
-    let mut place = text_start(bytes, mark);
+// The size of three quotation marks, with the line feed behind them.
+fn lines_front(text: &[u8]) -> usize
+    ensures { result ≡ rule.lines_front text.now }
+{
+    match byte_at(text, 3) {
+        b'\n' => 4,
+        b'\r' if byte_at(text, 4) == b'\n' => 5,
+        _ => 3,
+    }
+}
+
+// The size of the quotation marks that a text begins with.
+fn text_front(text: &[u8]) -> usize
+    ensures { result ≡ rule.text_front text.now }
+{
+    let mark = byte_at(text, 0);
+    if byte_at(text, 1) == mark && byte_at(text, 2) == mark {
+        lines_front(text)
+    } else {
+        1
+    }
+}
+
+// Whether a sign is a character behind all line feeds that come first.
+fn is_counted(sign: Sign, feeds: usize) -> bool
+    ensures { result ≡ rule.is_counted sign feeds }
+{
+    sign.seen && feeds == 0
+}
+
+// Whether a sign is the character with an index.
+fn is_here(sign: Sign, feeds: usize, index: usize) -> bool
+    ensures { result ≡ rule.is_here sign feeds index }
+{
+    is_counted(sign, feeds) && index == 0
+}
+
+// The line feeds that are left behind a sign.
+fn feeds_after(sign: Sign, feeds: usize) -> usize
+    ensures { result ≡ rule.feeds_after sign feeds }
+{
+    if sign.feed {
+        feeds.saturating_sub(1)
+    } else {
+        feeds
+    }
+}
+
+// The index that is left behind a sign.
+fn index_after(sign: Sign, feeds: usize, index: usize) -> usize
+    ensures { result ≡ rule.index_after sign feeds index }
+{
+    if is_counted(sign, feeds) {
+        index.saturating_sub(1)
+    } else {
+        index
+    }
+}
+
+// The bytes from a character to the end: the one with this index behind so many line feeds.
+fn sign_left(text: &[u8], basic: bool, feeds: usize, index: usize) -> Option<usize>
+    ensures { result ≡ rule.sign_left (length text.now) basic feeds index text.now }
+{
+    let mut rest = text;
     let mut feeds = feeds;
     let mut left = index;
-    for _sign in 0..bytes.len() {
-        let sign = sign_at(bytes, place, basic);
-        if sign.seen && feeds == 0 {
-            if left == 0 {
-                return place;
-            }
-            left -= 1;
-        } else if sign.feed && feeds > 0 {
-            feeds -= 1;
+    for _sign in 0..text.len() {
+        let sign = sign_of(rest, basic);
+        if is_here(sign, feeds, left) {
+            return Some(rest.len());
         }
-        place = place.saturating_add(sign.size);
+        left = index_after(sign, feeds, left);
+        feeds = feeds_after(sign, feeds);
+        rest = behind(rest, sign.size);
     }
-    mark
+    None
+}
+
+// The place of a character of the text whose quotation mark stands at `mark`: the one with this index behind so many line feeds.
+fn character_place(file: &[u8], mark: usize, feeds: usize, index: usize) -> usize
+    ensures { result ≡ rule.character_place file.now mark feeds index }
+{
+    let value = behind(file, mark);
+    let inner = behind(value, text_front(value));
+    match sign_left(inner, byte_at(file, mark) == b'"', feeds, index) {
+        Some(left) => file.len().saturating_sub(left),
+        None => mark,
+    }
+}
+
+// Adds the path of a part of a page, or of `info`.
+fn push_part(path: &mut String, part: Part) -> Result<(), AllocError>
+    ensures { OnOk result (string_bytes path.new ≡ string_bytes path.old ++ rule.part_path part) }
+{
+    match part {
+        Part::Option => path.push_str("/option"),
+        Part::Head => path.push_str("/head"),
+        Part::Status => path.push_str("/text"),
+        Part::Line { .. } => path.push_str("/rows/text"),
+        Part::Row { number } => {
+            path.push_str("/rows/")?;
+            push_decimal(path, number)
+        }
+    }
 }
 
 // The path of the value with a mistake.
-fn path_of(alloc: Global, mistake: &Mistake) -> Result<String, AllocError> {
+fn mistake_path(alloc: Global, mistake: &Mistake) -> Result<String, AllocError>
+    ensures { IfOk result (λ path. string_bytes path ≡ rule.mistake_path mistake.now) }
+{
     let mut path = String::new(alloc);
     if mistake.page == 0 {
         path.push_str("/info")?;
@@ -132,34 +237,56 @@ fn path_of(alloc: Global, mistake: &Mistake) -> Result<String, AllocError> {
         path.push_str("/page/")?;
         push_decimal(&mut path, mistake.page)?;
     }
-    match mistake.part {
-        Part::Option => path.push_str("/option")?,
-        Part::Head => path.push_str("/head")?,
-        Part::Status => path.push_str("/text")?,
-        Part::Line { .. } => path.push_str("/rows/text")?,
-        Part::Row { number } => {
-            path.push_str("/rows/")?;
-            push_decimal(&mut path, number)?;
-        }
-    }
+    push_part(&mut path, mistake.part)?;
     Ok(path)
 }
 
-/// The place of a mistake in an author's text, in bytes: that of the character, or of the value if it concerns the whole.
-pub fn mistake_place(alloc: Global, text: &str, mistake: &Mistake) -> Result<usize, AllocError> {
-    let path = path_of(alloc, mistake)?;
-    let Some(mark) = place_of(alloc, text, path.as_str())? else {
-        return Ok(0);
-    };
-    let bytes = text.as_bytes();
-    match mistake.part {
-        Part::Option => Ok(mark),
-        Part::Line { number } => Ok(character_at(
-            bytes,
-            mark,
-            number.saturating_sub(1),
-            mistake.place,
-        )),
-        _ => Ok(character_at(bytes, mark, 0, mistake.place)),
+// How many line feeds stand before a line of `text`.
+fn feeds_before(part: Part) -> usize
+    ensures { result ≡ rule.feeds_before part }
+{
+    match part {
+        Part::Line { number } => number.saturating_sub(1),
+        _ => 0,
     }
+}
+
+// The place of a mistake in the value that begins at `mark`.
+fn place_in_value(file: &[u8], mark: usize, mistake: &Mistake) -> usize
+    ensures { result ≡ rule.place_in_value file.now mark mistake.now.part mistake.now.place }
+{
+    match mistake.part {
+        Part::Option => mark,
+        part => character_place(file, mark, feeds_before(part), mistake.place),
+    }
+}
+
+// The place of a mistake, if its value begins at `mark`.
+fn place_behind(file: &str, mistake: &Mistake, mark: Option<usize>) -> usize
+    ensures { result ≡ rule.place_behind file.now mistake.now mark }
+{
+    match mark {
+        Some(mark) => place_in_value(file.as_bytes(), mark, mistake),
+        None => 0,
+    }
+}
+
+// Where the value with a mistake begins.
+fn mark_of(alloc: Global, text: &str, mistake: &Mistake) -> Result<Option<usize>, AllocError>
+    ensures { IfOk result (λ mark. place_of (rule.mistake_path mistake.now) text.now ≡ Some mark) }
+{
+    let path = mistake_path(alloc, mistake)?;
+    place_of(alloc, text, path.as_str())
+}
+
+/// The place of a mistake in an author's text, in bytes: that of the character, or of the value if it concerns the whole.
+pub(crate) fn mistake_place(
+    alloc: Global,
+    text: &str,
+    mistake: &Mistake,
+) -> Result<usize, AllocError>
+    ensures { IfOk result (rule.IsPlace text.now mistake.now) }
+{
+    let mark = mark_of(alloc, text, mistake)?;
+    Ok(place_behind(text, mistake, mark))
 }

@@ -3,22 +3,11 @@
 use crate::composing::printed_name;
 use crate::rows::row_key;
 use crate::tables::{array_at, copy_of, member, put, table_at, text_at};
+use crate::words::option_name;
 use crate::writing::push_service;
 use std::alloc::{AllocError, Global};
 use toml::{Table, Value};
 use ttx_author::{NationalOption, text_of};
-
-static OPTION_NAMES: [&str; 7] = [
-    "english", "german", "swedish", "italian", "french", "spanish", "czech",
-];
-
-/// The name of the national option with a number; option 7 has the characters of English.
-pub fn option_name(number: usize) -> &'static str {
-    match OPTION_NAMES.get(number) {
-        Some(name) => *name,
-        None => "option 7",
-    }
-}
 
 // The number of spaces at the end.
 fn spaces_behind(codes: &[u8]) -> usize {
@@ -100,7 +89,7 @@ fn write_option(alloc: Global, out: &mut Table, page: &Table) -> Result<(), Allo
             alloc,
             out,
             "option",
-            Value::String(String::from_str(alloc, OPTION_NAMES[number])?),
+            Value::String(String::from_str(alloc, option_name(number))?),
         )?;
     }
     Ok(())
@@ -156,7 +145,11 @@ fn author_of(alloc: Global, service: &Table) -> Result<Table, AllocError> {
 }
 
 /// The author's text of the table of a service.
-pub fn author_text(alloc: Global, service: &Table, source: &str) -> Result<String, AllocError> {
+pub(crate) fn author_text(
+    alloc: Global,
+    service: &Table,
+    source: &str,
+) -> Result<String, AllocError> {
     let author = author_of(alloc, service)?;
     let mut text = String::new(alloc);
     text.push_str("# Decomposed from ")?;

@@ -114,7 +114,7 @@ fn push_page(alloc: Global, text: &mut String, page: &Table) -> Result<(), Alloc
 }
 
 /// Adds the text of the table of a service. `comments` are those before each page.
-pub fn push_service(
+pub(crate) fn push_service(
     alloc: Global,
     text: &mut String,
     table: &Table,

@@ -3,7 +3,8 @@
 use std::alloc::Global;
 use std::process::Abort;
 use std::test::Fail;
-use ttx_desk::{ComposeFault, Mistake, compose, decompose, push_mistakes};
+use ttx_author_files::is_author_text;
+use ttx_desk::{ComposeFault, Mistake, compose, decompose, mistakes_report};
 
 const SETTINGS: &str = "author = 1\nlines = 12\nserial = true\n[[page]]\nnumber = \"100\"\n";
 
@@ -38,14 +39,7 @@ fn found_in(alloc: Global, author: &[u8]) -> Vec<Mistake> {
 fn mistakes(rt: &impl Abort, alloc: Global, page: &str, lines: &str) -> Result<(), Fail> {
     let author = with_settings(alloc, page)?;
     let found = found_in(alloc, author.as_bytes());
-    let mut text = String::new(alloc);
-    push_mistakes(
-        alloc,
-        &mut text,
-        "desk.toml",
-        author.as_bytes(),
-        found.as_slice(),
-    )?;
+    let text = mistakes_report(alloc, "desk.toml", author.as_bytes(), found.as_slice())?;
     assert_eq!(rt; text.as_str(), lines);
     Ok(())
 }
@@ -71,7 +65,7 @@ fn a_page_is_decomposed(rt: HostRuntime) -> Result<(), Fail> {
         "# Decomposed from news.toml by ttx decompose.\nauthor = 1\nlines = 12\nserial = true\n\n[[page]]\nnumber = \"100\"\n\
         head = \"Café\"\noption = \"french\"\n\n[page.rows]\n1 = \"{red}Crêpe  \"\n";
     match decompose(rt.alloc(), service.as_bytes(), "news.toml") {
-        Ok(text) => assert_eq!(&rt; text.as_str(), author),
+        Ok(decomposed) => assert_eq!(&rt; decomposed.text.as_str(), author),
         Err(_) => assert!(&rt; false, "no author's text"),
     }
     Ok(())
@@ -128,4 +122,21 @@ fn rows_are_too_many(rt: HostRuntime) -> Result<(), Fail> {
         desk.toml:8:6: error: this row stands in `text` too; leave one of them out\n\
         desk.toml:34:1: error: `text` has more than 24 lines; a page has rows 1 to 24\n3 mistakes\n",
     )
+}
+
+// Whether bytes are an author's text.
+fn is_author(alloc: Global, text: &str) -> Result<bool, Fail> {
+    let is = is_author_text(alloc, text.as_bytes())?;
+    Ok(is)
+}
+
+#[test]
+fn authors_texts_are_known(rt: HostRuntime) -> Result<(), Fail> {
+    assert!(&rt; is_author(rt.alloc(), "# mine\n\nauthor = 1\nlines = 12\n")?);
+    assert!(&rt; is_author(rt.alloc(), "\u{feff}\"author\" = 0x1\n")?);
+    assert!(&rt; !is_author(rt.alloc(), "author = 2\n")?);
+    assert!(&rt; !is_author(rt.alloc(), "lines = 12\nauthor = 1\n")?);
+    assert!(&rt; !is_author(rt.alloc(), "author.name = 1\n")?);
+    assert!(&rt; !is_author(rt.alloc(), "author = 1\nlines = \n")?);
+    Ok(())
 }

@@ -8,6 +8,8 @@ pub mod certify;
 pub mod certify_numbers;
 pub mod certify_within;
 pub mod check;
+pub mod compose;
+pub mod decompose;
 pub mod extract;
 pub mod find;
 pub mod find_deadline;

@@ -33,18 +33,19 @@ pub fn receive(rt: &HostRuntime, cycle: &str, tuning: &Tuning, look: Option<&Loo
 fn preview_input(
     rt: &HostRuntime,
     input: Input,
+    name: &str,
     selection: &Selection,
     look: &Look<'_>,
 ) -> Result<u8, ToolFault> {
     let mut reader = buffered(rt, input)?;
     let mut writer = Counted::new(io::writer(rt));
-    commands::preview::run(rt.alloc(), &mut reader, selection, look, &mut writer)
+    commands::preview::run(rt.alloc(), name, &mut reader, selection, look, &mut writer)
 }
 
-/// Opens the service, and shows a page of it before it is sent.
+/// Opens the service, or the author's text that means it, and shows a page of it before it is sent.
 pub fn preview(rt: &HostRuntime, service: &str, selection: &Selection, look: &Look<'_>) -> Outcome {
     Ok(status_of(
         rt,
-        preview_input(rt, open_input(rt, service)?, selection, look),
+        preview_input(rt, open_input(rt, service)?, service, selection, look),
     ))
 }

@@ -1,12 +1,12 @@
 //! `preview`: a page of a service as it is shown once it is received whole.
 
-ghost use Rattle.std.specs.Prelude.{◌≡◌, ◌∷◌, [], IfSome, IfOk, map, option_map, string_bytes};
+ghost use Rattle.std.specs.Prelude.{◌≡◌, ◌∷◌, [], None, IfSome, IfOk, map, option_map, string_bytes};
 ghost use Rattle.ttx_cycle.specs.Counters.{inner_of, faults_of};
 ghost use Rattle.ttx_page.specs.Views.{page_of};
 ghost use Rattle.ttx_files.specs.Answers.{IsUntouched};
 ghost use Rattle.ttx_files.specs.Devices.{AtService, input, output};
 ghost use Rattle.ttx_source.specs.Services.{pages_of};
-ghost use Rattle.ttx_tool.specs.Devices.{is_tool_write, Fails, Reads};
+ghost use Rattle.ttx_tool.specs.Devices.{is_tool_write, Fails};
 ghost use Rattle.ttx_tool.specs.Preview.{first_match, preview_text, preview_status, PreviewsText, Previews};
 
 use super::reports::write_text;
@@ -15,8 +15,9 @@ use crate::faults::ToolFault;
 use std::alloc::{AllocError, Global};
 use std::io::{Read, Write};
 use ttx_arguments::Look;
+use ttx_author_files::{Standing, read_standing};
 use ttx_cycle::Counted;
-use ttx_files::{FilesFault, Told, read_definition};
+use ttx_files::{FilesFault, Told};
 use ttx_page::{Page, PageMemory, Selection};
 use ttx_render::render;
 use ttx_source::Service;
@@ -69,19 +70,24 @@ fn shown(
     })
 }
 
-// What is shown of the service of a text.
-fn preview_service<R: Read>(
+// What is shown of a service text or an author's text.
+fn preview_file<R: Read>(
     alloc: Global,
+    name: &str,
     reader: &mut Counted<R>,
     selection: &Selection,
     look: &Look<'_>,
 ) -> Result<Told<u8>, ToolFault>
-    ensures bytes { IfSome (R.remaining (inner_of reader.old)) (λ bytes. PreviewsText bytes selection.now look.now result) }
-    ensures faults { Reads (input AtService (R.remaining (inner_of reader.old)) (faults_of reader.old) (faults_of reader.new) ∷ []) result }
+    ensures bytes { IfSome (R.remaining (inner_of reader.old)) (λ bytes. PreviewsText name.now bytes selection.now look.now result) }
+    ensures faults { Fails (input AtService None (faults_of reader.old) (faults_of reader.new) ∷ []) result }
 {
-    let service = match read_definition(alloc, reader) {
-        Ok(service) => service,
+    let standing = match read_standing(alloc, name, reader) {
+        Ok(standing) => standing,
         Err(fault) => return Err(ToolFault::Files(fault)),
+    };
+    let service = match standing {
+        Standing::Service(service) => service,
+        Standing::Lines(line) => return Ok(Told { verdict: 1, line }),
     };
     match shown(alloc, &service, selection, look) {
         Ok(preview) => Ok(preview),
@@ -89,25 +95,27 @@ fn preview_service<R: Read>(
     }
 }
 
-/// Reads the text of a service, and writes the View of the first page that the selection matches, as it is asked for: the status
-/// is 0. Where there is no such page, writes a line that says so: the status is 1.
+/// Reads a service text, or an author's text with this name, and writes the View of the first page that the selection matches, as it is
+/// asked for: the status is 0. Where there is no such page, writes a line that says so, and where an author's text has mistakes, their
+/// lines: the status is 1.
 ///
 /// Nothing is written before the text is read. At `Write` exactly the first `written` bytes went out; at each other fault the
 /// writer is as it was.
 pub fn run<R: Read, W: Write>(
     alloc: Global,
+    name: &str,
     reader: &mut Counted<R>,
     selection: &Selection,
     look: &Look<'_>,
     writer: &mut Counted<W>,
 ) -> Result<u8, ToolFault>
-    ensures bytes { IfSome (R.remaining (inner_of reader.old))
-        (λ bytes. Previews bytes selection.now look.now (W.contents (inner_of writer.old)) (W.contents (inner_of writer.new)) result) }
-    ensures faults { Fails (input AtService (R.remaining (inner_of reader.old)) (faults_of reader.old) (faults_of reader.new)
+    ensures bytes { IfSome (R.remaining (inner_of reader.old)) (λ bytes. Previews name.now bytes selection.now look.now
+        (W.contents (inner_of writer.old)) (W.contents (inner_of writer.new)) result) }
+    ensures faults { Fails (input AtService None (faults_of reader.old) (faults_of reader.new)
         ∷ output (faults_of writer.old) (faults_of writer.new) ∷ []) result }
     ensures untouched { IsUntouched is_tool_write result writer.old writer.new }
 {
-    let preview = match preview_service(alloc, reader, selection, look) {
+    let preview = match preview_file(alloc, name, reader, selection, look) {
         Ok(preview) => preview,
         Err(fault) => return Err(fault),
     };

@@ -1,0 +1,3 @@
+pub mod AuthorTexts
+pub mod Composing
+pub mod Decomposing
