@@ -12,7 +12,7 @@ from collections import Counter
 TAKES = {
     "service": "lines serial info page".split(),
     "info": "designation initial network halves mjd utc text".split(),
-    "page": "number sub often option newsflash subtitle suppress update interrupted inhibit head rows links row24 crc".split(),
+    "page": "number sub often within stays option newsflash subtitle suppress update interrupted inhibit head rows links row24 crc".split(),
 }
 FIRST = {"number": "100", "sub": "0000", "often": 1, "newsflash": False, "subtitle": False, "inhibit": False, "head": "", "rows": {}, "links": [], "row24": False}
 CODES = "AB \t\n\b\v\v\r"
@@ -100,6 +100,8 @@ def random_page(number, sub):
     page = {"number": number} | ({"sub": sub} if sub != "0000" or random.random() < 0.3 else {})
     if random.random() < 0.4:
         page["often"] = random.choice([1, 2, 4, 8])
+    if random.random() < 0.3:
+        page["stays"] = random.choice([0.02, 1, 2, 2.98, 3, 3.0, 8.5, 20000])
     for key in ("newsflash", "subtitle", "inhibit", "row24"):
         if random.random() < 0.2:
             page[key] = random.random() < 0.7
@@ -228,6 +230,11 @@ def lines(service):
             own = sum(packets(page) for page in pages if page["number"][0] == magazine)
             if total < 2 * own and own < total:
                 yield f"warning magazine {magazine}: it has more than half of all packets: compare ttx wait with serial = false\n"
+    numbers = [page["number"] for page in pages]
+    for number in dict.fromkeys(numbers):
+        kept = any(page["number"] == number and page.get("stays", 0) >= 3 for page in pages)
+        if numbers.count(number) > 1 and not kept:
+            yield f"warning number {number}: its {numbers.count(number)} pages may change before they are read: give one stays = 3.0 or more, and plan --spread\n"
 
 
 def report(service):

@@ -1,7 +1,7 @@
 -- The waits of pages say which pages are seen, and which come in time.
 use Rattle.std.proofs.Common.{◌≡◌, ℕ, zero, suc, ◌<◌, ◌≤◌, List, [], ◌∷◌, length, map, Some}
-use Rattle.std.proofs.Common.{refl, sym, ap, ◌∙◌, subst, arith, inl, inr, get_or, ◌+◌}
-use Rattle.std.proofs.lemmas.Bool.{cases_eq}
+use Rattle.std.proofs.Common.{refl, sym, ap, ◌∙◌, subst, arith, inl, inr, get_or, ◌+◌, Option, None, Bool, true, false}
+use Rattle.std.proofs.lemmas.Bool.{cases_eq, cases_Bool}
 use Rattle.std.proofs.lemmas.List.{length-map}
 use Rattle.std.specs.Prelude.{slice_get, option_map}
 use Rattle.std.proofs.lemmas.Option.{slice_get_within, slice_get-map, slice_get-get_or}
@@ -20,7 +20,10 @@ use Rattle.ttx_witness.specs.declared.waiting.wait.PageWait.{PageWait}
 use Rattle.ttx_witness.specs.declared.waiting.wait.Wait.{Wait}
 use Rattle.ttx_witness.specs.declared.waiting.wait.Wait.TheVariants.{Fields, Faulty, Unsure}
 use Rattle.ttx_carousel.specs.Carousels.{IsSeen, AreSeen}
-use Rattle.ttx_carousel.specs.Judging.{IsUnseen, IsLateFor, IsKeptFor, IsFirstLate}
+use Rattle.ttx_promise.specs.declared.planning.Viewers.{Viewers}
+use Rattle.ttx_carousel.specs.Judging.{IsUnseen, IsLateFor, IsKeptFor, IsFirstLate, IsShownOrMissed, IsShownLate, IsJudged}
+use Rattle.ttx_carousel.specs.declared.faults.Missed.{Missed}
+use Rattle.ttx_carousel.specs.declared.faults.Missed.TheVariants.{Unseen, Late, NeverShown}
 use Rattle.ttx_carousel.specs.Waiting.{told_of, HasFields, AllHaveFields, IsFirstWithout, IsAtMost, IsInTime, AreInTime}
 use Rattle.ttx_carousel.specs.Waiting.{TellsFields, IsLateIn, IsFirstLateIn}
 
@@ -150,3 +153,25 @@ all_fields all n le before index one e =
 
 pub has_fields : (wait : Wait) (fields : ℕ) (item : Item) → wait ≡ Fields fields item → HasFields wait
 has_fields wait fields item e = subst HasFields (sym e) tt
+
+judged_late : (v : Viewers) (promises : List PromiseFields) (service : ServiceFields) (cycle : List (List ℕ)) →
+    AreSeen cycle service v.receivers.class v.repeat → AreKept promises service v.receivers.class v.repeat cycle → v.receivers.late ≡ true →
+    (missed : Option Missed) → IsShownOrMissed cycle (pages_of service) missed → IsJudged v promises service cycle missed
+judged_late v promises service cycle seen kept late None h = record { seen = seen; kept = kept; followed = λ _. h }
+judged_late v promises service cycle seen kept late (Some (Unseen page)) h = absurd h
+judged_late v promises service cycle seen kept late (Some (Late one)) h = absurd h
+judged_late v promises service cycle seen kept late (Some (NeverShown page slot)) h = (late, h)
+
+true_apart : (b : Bool) → b ≡ false → b ≡ true → ⊥
+true_apart b f t = cc
+
+pub judged_rest : (v : Viewers) (promises : List PromiseFields) (service : ServiceFields) (cycle : List (List ℕ)) →
+    AreSeen cycle service v.receivers.class v.repeat → AreKept promises service v.receivers.class v.repeat cycle →
+    (missed : Option Missed) → IsShownLate v.receivers.late cycle (pages_of service) missed → IsJudged v promises service cycle missed
+judged_rest v promises service cycle seen kept missed h = elim (cases_Bool v.receivers.late) [
+  | inl late ↦ judged_late v promises service cycle seen kept late missed
+      (subst (λ b. IsShownLate b cycle (pages_of service) missed) late h)
+  | inr early ↦ subst (IsJudged v promises service cycle)
+      (sym (subst (λ b. IsShownLate b cycle (pages_of service) missed) early h))
+      (record { seen = seen; kept = kept; followed = λ late. absurd (true_apart v.receivers.late early late) })
+]

@@ -1,2 +1,4 @@
 mod JudgedWaits
 mod StaysOfNumbers
+mod CarouselLayout
+mod CarouselPlans

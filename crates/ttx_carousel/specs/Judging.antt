@@ -1,13 +1,18 @@
 -- What a cycle does not keep.
 --
---   IsShort, IsFirstShort   a number stays too short; the first such promise
+--   IsShort                 a number stays too short
+--   AreShortTo, AreShort    the numbers that stay too short, each once, by its first promise that is not kept
 --   IsUnseen                the first page that no certificate accepts
 --   IsLateFor, IsFirstLate  a page comes too late; the first such promise
+--   IsShownOrMissed, IsShownLate    each page is shown late, or the first that never is
 --   IsMissed, IsJudged      what a cycle does not keep of the rest; or all of it is kept
-use Rattle.std.specs.Prelude.{◌≡◌, ℕ, ◌*◌, ◌/◌, ◌<◌, true, List, slice_get, Option, Some, None}
+use Rattle.std.specs.Prelude.{◌≡◌, ◌⊎◌, ℕ, zero, suc, ◌*◌, ◌/◌, ◌<◌, Bool, true, false, ◌&&◌, ◌==◌, List, [], ◌∷◌, ◌++◌, length, slice_get, Option, Some, None}
+use Rattle.std.specs.Prelude.{if◌then◌else◌}
+use Rattle.std.specs.List.{list_any}
 use Rattle.ttx_page.specs.Pages.{Page}
 use Rattle.ttx_page.specs.declared.class.Class.{Class}
-use Rattle.ttx_late.specs.Followed.{AllAreFollowed, IsFirstUnshown}
+use Rattle.ttx_late.specs.Followed.{AllAreFollowed}
+use Rattle.ttx_late.specs.LateVerdicts.{IsNeverShown}
 use Rattle.ttx_promise.specs.Promises.{AreKept, IsKept}
 use Rattle.ttx_promise.specs.declared.faults.LatePage.{LatePage}
 use Rattle.ttx_promise.specs.declared.planning.Viewers.{Viewers}
@@ -18,7 +23,7 @@ use Rattle.ttx_header.specs.Ids.{Id}
 use Rattle.ttx_carousel.specs.Carousels.{IsStayOf, IsStayKeptFor, IsSeen, AreSeen}
 use Rattle.ttx_carousel.specs.declared.faults.ShortStay.{ShortStay}
 use Rattle.ttx_carousel.specs.declared.faults.Missed.{Missed}
-use Rattle.ttx_carousel.specs.declared.faults.Missed.TheVariants.{Unseen, Late, Unshown}
+use Rattle.ttx_carousel.specs.declared.faults.Missed.TheVariants.{Unseen, Late, NeverShown}
 
 -- the number of the page stays so many whole fields, and not as many as it promises
 pub record IsShort (cycle : List (List ℕ)) (service : ServiceFields) (stay : PromiseFields) (short : ShortStay) : Type 0 where
@@ -31,13 +36,29 @@ pub record IsShort (cycle : List (List ℕ)) (service : ServiceFields) (stay : P
   pub promise : short.promise ≡ stay.fields
   pub missing : slots < stay.fields * service.lines
 
--- and the promises before are kept
-pub record IsFirstShort (stays : List PromiseFields) (service : ServiceFields) (cycle : List (List ℕ)) (short : ShortStay) : Type 0 where
-  pub number : ℕ
-  pub stay : PromiseFields
-  pub at : slice_get stays number ≡ Some stay
-  pub is : IsShort cycle service stay short
-  pub before : (other : ℕ) (kept : PromiseFields) → other < number → slice_get stays other ≡ Some kept → IsStayKeptFor cycle service kept
+abbrev pub is_same_number : ShortStay → ShortStay → Bool
+is_same_number one other = (one.number.mag == other.number.mag) && (one.number.page == other.number.page)
+
+-- one more number, unless it is told
+abbrev pub told_with : List ShortStay → ShortStay → List ShortStay
+told_with told short = if list_any (is_same_number short) told then told else told ++ short ∷ []
+
+-- a promise is kept, or its number is told
+abbrev pub IsTold : List (List ℕ) → ServiceFields → Option PromiseFields → List ShortStay → List ShortStay → Type 0
+IsTold cycle service None before told = told ≡ before
+IsTold cycle service (Some stay) before told =
+    (IsStayKeptFor cycle service stay × (told ≡ before))
+    ⊎ ((short : ShortStay) × IsShort cycle service stay short × (told ≡ told_with before short))
+
+-- those of the first n promises
+abbrev pub AreShortTo : List PromiseFields → ServiceFields → List (List ℕ) → ℕ → List ShortStay → Type 0
+AreShortTo stays service cycle zero told = told ≡ []
+AreShortTo stays service cycle (suc n) told =
+    (before : List ShortStay) × AreShortTo stays service cycle n before × IsTold cycle service (slice_get stays n) before told
+
+-- in the order of the promises, each number once
+abbrev pub AreShort : List PromiseFields → ServiceFields → List (List ℕ) → List ShortStay → Type 0
+AreShort stays service cycle told = AreShortTo stays service cycle (length stays) told
 
 pub record IsUnseen (cycle : List (List ℕ)) (service : ServiceFields) (class : Class) (repeat : ℕ) (id : Id) : Type 0 where
   pub index : ℕ
@@ -73,7 +94,18 @@ pub record IsFirstLate (cycle : List (List ℕ)) (service : ServiceFields) (clas
 abbrev pub IsMissed : Viewers → List PromiseFields → ServiceFields → List (List ℕ) → Missed → Type 0
 IsMissed v promises service cycle (Unseen page) = IsUnseen cycle service v.receivers.class v.repeat page
 IsMissed v promises service cycle (Late late) = IsFirstLate cycle service v.receivers.class v.repeat promises late
-IsMissed v promises service cycle (Unshown unshown) = (v.receivers.late ≡ true) × IsFirstUnshown cycle (pages_of service) unshown
+IsMissed v promises service cycle (NeverShown page slot) = (v.receivers.late ≡ true) × IsNeverShown cycle (pages_of service) page slot
+
+abbrev pub IsShownOrMissed : List (List ℕ) → List Page → Option Missed → Type 0
+IsShownOrMissed cycle pages None = AllAreFollowed cycle pages
+IsShownOrMissed cycle pages (Some (Unseen page)) = ⊥
+IsShownOrMissed cycle pages (Some (Late late)) = ⊥
+IsShownOrMissed cycle pages (Some (NeverShown page slot)) = IsNeverShown cycle pages page slot
+
+-- for receivers that show pages late, if there are to be such
+abbrev pub IsShownLate : Bool → List (List ℕ) → List Page → Option Missed → Type 0
+IsShownLate true cycle pages missed = IsShownOrMissed cycle pages missed
+IsShownLate false cycle pages missed = missed ≡ None
 
 -- all but the stays
 pub record KeepsRest (v : Viewers) (promises : List PromiseFields) (service : ServiceFields) (cycle : List (List ℕ)) : Type 0 where

@@ -1,5 +1,7 @@
 pub mod Carousels
 pub mod Judging
+pub mod Layout
 pub mod Orders
 pub mod Waiting
 pub mod Planning
+pub mod StayLines

@@ -1,7 +1,6 @@
 //! Why there is no plan in which subpages stay as long as promised.
 
 use ttx_header::PageId;
-use ttx_late::Unshown;
 use ttx_promise::{LatePage, PromiseFault};
 
 /// A number whose pages stay too short.
@@ -15,15 +14,15 @@ pub struct ShortStay {
     pub promise: u32,
 }
 
-/// What a cycle whose stays are kept does not keep.
+/// What a cycle in which the stays are kept does not keep.
 #[derive(Clone, Copy)]
 pub enum Missed {
     /// No certificate accepts this page.
     Unseen { page: PageId },
     /// This page comes too late.
     Late { late: LatePage },
-    /// Receivers that show a page late never show this page.
-    Unshown { unshown: Unshown },
+    /// Receivers that show pages late never show this page: after its header in this slot comes its own page number again.
+    NeverShown { page: PageId, slot: usize },
 }
 
 /// Why a service has no plan that keeps its promises and its stays.
@@ -31,11 +30,11 @@ pub enum Missed {
 pub enum StayFault {
     /// The promises cannot be kept even without stays, or there is no plan.
     Promise { fault: PromiseFault },
-    /// A cycle with one page of each number a turn might have more than 65,536 slots.
+    /// A cycle with one lap a turn might have more than 65,536 slots.
     TooLong,
-    /// In the longest cycle that was tried a number stays too short.
-    Short { short: ShortStay },
-    /// In the cycle in which the stays are kept something else is missed.
+    /// In the longest cycle these numbers stay too short, and in each shorter one some number does.
+    Short { numbers: Vec<ShortStay> },
+    /// In the shortest cycle in which the stays are kept something else is missed.
     Missed { missed: Missed },
     /// An allocation failed.
     NoMemory,

@@ -1,23 +1,23 @@
 //! Whether a cycle keeps what is promised of a service.
 
-ghost use Rattle.std.specs.Prelude.{◌≡◌, ◌≤◌, MatchOption, IfOk, map, true};
+ghost use Rattle.std.specs.Prelude.{◌≡◌, ◌≤◌, MatchOption, OnOk, IfOk, map, []};
+ghost use Rattle.std.specs.List.{list_any};
 ghost use Rattle.ttx_cycle.specs.Cycles.{slots_of};
 ghost use Rattle.ttx_page.specs.Streams.{repeated};
+ghost use Rattle.ttx_page.specs.Views.{page_of};
 ghost use Rattle.ttx_page.specs.declared.selection.Selection.TheVariants.{AnySub};
 ghost use Rattle.ttx_source.specs.PromiseViews.{promise_view};
 ghost use Rattle.ttx_subpages.specs.NumberReports.{IsStayOrNone};
 ghost use Rattle.ttx_carousel.specs.Carousels.{IsStayKeptFor, AreStaysKept};
-ghost use Rattle.ttx_carousel.specs.Judging.{IsShort, IsFirstShort, IsJudged};
+ghost use Rattle.ttx_carousel.specs.Judging.{IsShort, is_same_number, told_with, AreShort, IsShownOrMissed, IsShownLate, IsJudged};
 ghost use Rattle.ttx_carousel.specs.Waiting.{told_of, AllHaveFields, IsFirstWithout, IsInTime, IsLateIn, AreInTime, IsFirstLateIn};
-ghost use Rattle.ttx_late.specs.Followed.{AllAreFollowed, IsFirstUnshown};
-ghost use Rattle.ttx_source.specs.Services.{pages_of};
 
 use crate::faults::{Missed, ShortStay};
-use std::alloc::Global;
+use std::alloc::{AllocError, Global};
 use ttx_cycle::Cycle;
 use ttx_header::PageId;
-use ttx_late::{Unshown, first_unshown};
-use ttx_page::Selection;
+use ttx_late::first_unshown;
+use ttx_page::{Page, Selection};
 use ttx_promise::{LatePage, PromisedWait, Viewers, promised_waits};
 use ttx_source::{Promise, Service};
 use ttx_subpages::least_stay;
@@ -31,6 +31,13 @@ fn stay_slots(cycle: &Cycle, page: PageId) -> usize
         Some(slots) => slots,
         None => 0,
     }
+}
+
+// Whether two are of one number.
+fn is_same_number(one: &ShortStay, other: &ShortStay) -> bool
+    ensures { result ≡ is_same_number one.now other.now }
+{
+    one.number.mag() == other.number.mag() && one.number.page() == other.number.page()
 }
 
 // The number of a promised page, if it stays too short.
@@ -57,18 +64,42 @@ fn short_of(cycle: &Cycle, service: &Service, stay: Promise) -> Option<ShortStay
     }
 }
 
-/// The first number that stays too short, in the order of the promises; `None` if each stays as long as promised. `fields` of a promise
-/// are the fields for which each page of the page's number is to stay, for receivers that show a page where it ends.
-pub fn first_short(cycle: &Cycle, service: &Service, stays: &[Promise]) -> Option<ShortStay>
-    ensures { MatchOption result (AreStaysKept (map promise_view stays.now) service.now (slots_of cycle.now))
-        (IsFirstShort (map promise_view stays.now) service.now (slots_of cycle.now)) }
+// Whether a number is told.
+fn is_told(told: &[ShortStay], short: &ShortStay) -> bool
+    ensures { result ≡ list_any (is_same_number short.now) told.now }
 {
+    told.iter().any(|other| is_same_number(short, other))
+}
+
+// Adds a number, unless it is told.
+fn tell(told: &mut Vec<ShortStay>, short: ShortStay) -> Result<(), AllocError>
+    ensures { OnOk result (told.new.items ≡ told_with told.old.items short) }
+{
+    if is_told(told, &short) {
+        return Ok(());
+    }
+    told.push(short)?;
+    Ok(())
+}
+
+/// The numbers that stay too short, in the order of the promises, each once: by its first promise that is not kept. `fields` of a promise
+/// are the fields for which each page of the page's number is to stay, for receivers that show a page where it ends.
+pub fn short_stays(
+    alloc: Global,
+    cycle: &Cycle,
+    service: &Service,
+    stays: &[Promise],
+) -> Result<Vec<ShortStay>, AllocError>
+    ensures are { IfOk result (λ numbers. AreShort (map promise_view stays.now) service.now (slots_of cycle.now) numbers.items) }
+    ensures none { IfOk result (λ numbers. numbers.items ≡ [] → AreStaysKept (map promise_view stays.now) service.now (slots_of cycle.now)) }
+{
+    let mut told = Vec::new(alloc);
     for stay in stays {
         if let Some(short) = short_of(cycle, service, *stay) {
-            return Some(short);
+            tell(&mut told, short)?;
         }
     }
-    None
+    Ok(told)
 }
 
 // The first page for which there is no deadline.
@@ -113,18 +144,27 @@ fn first_late(all: &[PromisedWait], promises: &[Promise]) -> Option<LatePage>
     None
 }
 
-// The first page that receivers that show a page late never show, if there are to be such receivers.
-fn unshown(cycle: &Cycle, service: &Service, late: bool) -> Option<Unshown>
-    ensures { MatchOption result (late ≡ true → AllAreFollowed (slots_of cycle.now) (pages_of service.now))
-        (λ unshown. (late ≡ true) × IsFirstUnshown (slots_of cycle.now) (pages_of service.now) unshown) }
+// The first page that receivers that show pages late never show.
+fn unshown(cycle: &Cycle, pages: &[Page]) -> Option<Missed>
+    ensures { IsShownOrMissed (slots_of cycle.now) (map page_of pages.now) result }
 {
-    if !late {
-        return None;
+    match first_unshown(cycle, pages) {
+        Some(unshown) => Some(Missed::NeverShown {
+            page: pages[unshown.page].id(),
+            slot: unshown.slot,
+        }),
+        None => None,
     }
-    first_unshown(cycle, service.pages())
 }
 
-/// What a cycle does not keep of what is promised of a service, but for its stays; `None` if it keeps all of it: each page alone is accepted
+// The same if there are to be such receivers.
+fn never_shown(cycle: &Cycle, pages: &[Page], late: bool) -> Option<Missed>
+    ensures { IsShownLate late (slots_of cycle.now) (map page_of pages.now) result }
+{
+    if late { unshown(cycle, pages) } else { None }
+}
+
+/// What a cycle does not keep of what is promised of a service, apart from its stays; `None` if it keeps all of it: each page alone is accepted
 /// with some certificate, each promised page with a deadline of at most its promise, and for receivers that show a page late each page is
 /// followed by another page number.
 pub fn judge(
@@ -146,8 +186,5 @@ pub fn judge(
     if let Some(late) = first_late(&all, promises) {
         return Ok(Some(Missed::Late { late }));
     }
-    match unshown(cycle, service, viewers.receivers.late) {
-        Some(unshown) => Ok(Some(Missed::Unshown { unshown })),
-        None => Ok(None),
-    }
+    Ok(never_shown(cycle, service.pages(), viewers.receivers.late))
 }

@@ -1,82 +1,139 @@
 //! The order in which a carousel sends pages.
-//!
-//! A cycle has as many turns as the number with stays that has the most pages. Each turn is some laps of eight rounds. In each eight rounds
-//! a page is sent as often as the service says, at its place of `spread_places`. Of a number with stays one page is sent a turn, once, in the
-//! order of subcodes. No promise rests on this: a cycle is judged by its slots.
 
-ghost use Rattle.std.specs.Prelude.{◌≡◌, ◌≤◌, ◌<◌, ℕ, length, slice_index, IfOk, IfSome};
+ghost use Rattle.std.specs.Prelude.{◌≡◌, ◌+◌, ◌*◌, ◌/◌, ◌++◌, ◌∷◌, ◌≤◌, ◌<◌, ℕ, not, [], if◌then◌else◌, length, map, slice_get, IfOk, IfSome, MatchOption, OnOk, Some};
+ghost use Rattle.std.specs.List.{list_any};
+ghost use Rattle.ttx_page.specs.Views.{page_of};
+ghost use Rattle.ttx_source.specs.PromiseViews.{promise_view};
+ghost use Rattle.ttx_source.specs.Services.{Authored, pages_of};
+ghost use Rattle.ttx_carousel.specs.Layout as rule;
 ghost use Rattle.ttx_carousel.specs.Orders.{AreBelow};
 
 use std::alloc::{AllocError, Global};
 use ttx_page::Page;
 use ttx_source::{Promise, Service};
-use ttx_subpages::count_of;
 
 /// Where a page stands.
 #[derive(Clone, Copy)]
 pub enum Standing {
-    /// In every `period`th round, from its place on.
-    Rounds { period: usize, place: usize },
+    /// So often in eight rounds, from its place on.
+    Rounds { often: u8, place: usize },
     /// In one round of one turn.
-    Turn { turn: usize, round: usize },
+    Once { turn: usize, place: usize },
 }
 
 // Whether two pages have one page number.
-fn share_number(one: &Page, two: &Page) -> bool {
-    one.id().mag() == two.id().mag() && one.id().page() == two.id().page()
+fn share_number(one: &Page, two: &Page) -> bool
+    ensures { result ≡ rule.share_number (page_of one.now) (page_of two.now) }
+{
+    let first = one.id();
+    let second = two.id();
+    first.mag() == second.mag() && first.page() == second.page()
+}
+
+// Whether a stay is of the number of a page.
+fn is_stay_of(pages: &[Page], page: &Page, stay: Promise) -> bool
+    ensures { result ≡ rule.is_stay_of (map page_of pages.now) (page_of page.now) (promise_view stay) }
+{
+    match pages.get(stay.page) {
+        Some(other) => share_number(other, page),
+        None => false,
+    }
+}
+
+// Whether one of the stays is of the number of a page.
+fn some_stay(pages: &[Page], stays: &[Promise], page: &Page) -> bool
+    ensures { result ≡ list_any (λ stay. rule.is_stay_of (map page_of pages.now) (page_of page.now) (promise_view stay)) stays.now }
+{
+    stays.iter().any(|stay| is_stay_of(pages, page, *stay))
 }
 
 // Whether the number of a page has stays.
-fn has_stays(pages: &[Page], stays: &[Promise], page: &Page) -> bool {
-    for stay in stays {
-        if stay.page < pages.len() && share_number(&pages[stay.page], page) {
-            return true;
-        }
-    }
-    false
+fn has_stays(pages: &[Page], stays: &[Promise], page: &Page) -> bool
+    ensures { result ≡ rule.has_stays (map page_of pages.now) (map promise_view stays.now) (page_of page.now) }
+{
+    some_stay(pages, stays, page)
 }
 
-// The first page of the list with the number of a page.
-fn first_of(pages: &[Page], page: &Page) -> usize {
-    for index in 0..pages.len() {
-        if share_number(&pages[index], page) {
-            return index;
-        }
-    }
-    0
-}
-
-// How many pages of the number of a page have a smaller subcode.
-fn rank(pages: &[Page], page: &Page) -> usize {
+// How many pages have the number of a page.
+fn siblings(pages: &[Page], page: &Page) -> usize
+    ensures value { result ≡ rule.siblings (map page_of pages.now) (page_of page.now) }
+    ensures few { result ≤ length pages.now }
+{
     pages
         .iter()
-        .filter(|other| share_number(other, page) && other.id().sub() < page.id().sub())
+        .filter(|other| share_number(page, other))
         .count()
 }
 
-// How many pages the number of a page has.
-fn siblings(pages: &[Page], page: &Page) -> usize {
-    count_of(pages, page.id().mag(), page.id().page())
+// Whether a page has the number of another, and a smaller subcode.
+fn has_smaller_subcode(page: &Page, other: &Page) -> bool
+    ensures { result ≡ rule.has_smaller_subcode (page_of page.now) (page_of other.now) }
+{
+    share_number(page, other) && other.id().sub() < page.id().sub()
+}
+
+// How many pages of the number of a page have a smaller subcode.
+fn rank(pages: &[Page], page: &Page) -> usize
+    ensures value { result ≡ rule.rank (map page_of pages.now) (page_of page.now) }
+    ensures few { result ≤ length pages.now }
+{
+    pages
+        .iter()
+        .filter(|other| has_smaller_subcode(page, other))
+        .count()
+}
+
+// The first page of the list with the number of a page.
+fn first_of(pages: &[Page], page: &Page) -> usize
+    ensures { result ≡ rule.first_of (map page_of pages.now) (page_of page.now) }
+{
+    for index in 0..pages.len() {
+        if share_number(page, &pages[index]) {
+            return index;
+        }
+    }
+    pages.len()
+}
+
+// How many turns the number of a page needs.
+fn turns_of(pages: &[Page], stays: &[Promise], page: &Page) -> usize
+    ensures value { result ≡ rule.turns_of (map page_of pages.now) (map promise_view stays.now) (page_of page.now) }
+    ensures few { result ≤ 1 + length pages.now }
+{
+    if has_stays(pages, stays, page) {
+        siblings(pages, page)
+    } else {
+        1
+    }
+}
+
+fn greater(one: usize, other: usize) -> usize
+    ensures value { result ≡ rule.greater one other }
+    ensures least { one ≤ result }
+    ensures most { (n : ℕ) → one ≤ n → other ≤ n → result ≤ n }
+{
+    if one < other { other } else { one }
 }
 
 /// How many turns a cycle has.
 pub fn turns(pages: &[Page], stays: &[Promise]) -> usize
     requires { length pages.now ≤ 2000 }
+    ensures value { result ≡ rule.turns (map page_of pages.now) (map promise_view stays.now) }
     ensures some { 1 ≤ result }
-    ensures few { result ≤ 2000 }
+    ensures few { result ≤ 2001 }
 {
     let mut turns = 1;
-    for page in pages {
-        let count = siblings(pages, page);
-        if has_stays(pages, stays, page) && count > turns && count <= 2000 {
-            turns = count;
-        }
+    for index in 0..pages.len() {
+        turns = greater(turns, turns_of(pages, stays, &pages[index]));
     }
     turns
 }
 
 // How many rounds there are from one that a page is sent in to the next.
-fn rounds_between(often: u8) -> usize {
+fn rounds_between(often: u8) -> usize
+    ensures value { result ≡ rule.rounds_between often }
+    ensures some { 1 ≤ result }
+{
     match often {
         1 => 8,
         2 => 4,
@@ -85,7 +142,9 @@ fn rounds_between(often: u8) -> usize {
     }
 }
 
-fn place_at(places: &[usize], index: usize) -> usize {
+fn place_at(places: &[usize], index: usize) -> usize
+    ensures { result ≡ rule.place_of places.now index }
+{
     if index < places.len() {
         places[index]
     } else {
@@ -93,27 +152,52 @@ fn place_at(places: &[usize], index: usize) -> usize {
     }
 }
 
+// The turn of a page of a number with stays.
+fn turn_of(pages: &[Page], page: &Page, turns: usize) -> usize
+    requires few { length pages.now ≤ 2000 }
+    requires turns { turns ≤ 2001 }
+    ensures { result ≡ rule.turn_of (map page_of pages.now) (page_of page.now) turns }
+{
+    let siblings = siblings(pages, page);
+    if siblings == 0 {
+        return 0;
+    }
+    rank(pages, page) * turns / siblings
+}
+
+// Where a page of such a number stands.
+fn once(pages: &[Page], places: &[usize], page: &Page, turns: usize) -> Standing
+    requires few { length pages.now ≤ 2000 }
+    requires turns { turns ≤ 2001 }
+    ensures { result ≡ rule.once (map page_of pages.now) places.now (page_of page.now) turns }
+{
+    Standing::Once {
+        turn: turn_of(pages, page, turns),
+        place: place_at(places, first_of(pages, page)),
+    }
+}
+
 // Where a page stands.
-fn stand_of(
+fn standing_of(
     service: &Service,
     stays: &[Promise],
     places: &[usize],
     turns: usize,
     index: usize,
 ) -> Standing
-    requires { index < length service.now.pages }
+    requires index { index < length service.now.pages }
+    requires turns { turns ≡ rule.turns (pages_of service.now) (map promise_view stays.now) }
+    requires few { turns ≤ 2001 }
+    ensures { (p : Authored) → slice_get service.now.pages index ≡ Some p →
+        result ≡ rule.standing_of (pages_of service.now) (map promise_view stays.now) places.now index p }
 {
     let pages = service.pages();
     let page = &pages[index];
     if has_stays(pages, stays, page) {
-        let count = siblings(pages, page).max(1);
-        Standing::Turn {
-            turn: rank(pages, page).wrapping_mul(turns) / count,
-            round: place_at(places, first_of(pages, page)),
-        }
+        once(pages, places, page, turns)
     } else {
         Standing::Rounds {
-            period: rounds_between(service.often(index)),
+            often: service.often(index),
             place: place_at(places, index),
         }
     }
@@ -127,51 +211,75 @@ pub fn standings(
     places: &[usize],
     turns: usize,
 ) -> Result<Vec<Standing>, AllocError>
-    ensures { IfOk result (λ standings. length standings.items ≡ length service.now.pages) }
+    requires turns { turns ≡ rule.turns (pages_of service.now) (map promise_view stays.now) }
+    requires few { turns ≤ 2001 }
+    ensures { IfOk result (λ standings. standings.items ≡ rule.standings service.now (map promise_view stays.now) places.now) }
 {
     let count = service.pages().len();
     let mut standings = Vec::new(alloc);
     for index in 0..count {
-        standings.push(stand_of(service, stays, places, turns, index))?;
+        standings.push(standing_of(service, stays, places, turns, index))?;
     }
     Ok(standings)
 }
 
-/// Whether some page stands in rounds of each turn.
-pub fn has_rounds(standings: &[Standing]) -> bool {
-    standings.iter().any(|one| match one {
-        Standing::Rounds {
-            period: _,
-            place: _,
-        } => true,
-        Standing::Turn { turn: _, round: _ } => false,
-    })
+// Whether the number of a page has no stays.
+fn has_none(pages: &[Page], stays: &[Promise], page: &Page) -> bool
+    ensures { result ≡ not (rule.has_stays (map page_of pages.now) (map promise_view stays.now) (page_of page.now)) }
+{
+    !has_stays(pages, stays, page)
 }
 
-// Whether a page is sent in a round of a turn. `round` counts from the beginning of the turn.
-fn stands(standing: Standing, turn: usize, round: usize) -> bool {
-    match standing {
-        Standing::Rounds { period, place } => round % period.max(1) == place,
-        Standing::Turn {
-            turn: own,
-            round: place,
-        } => turn == own && round == place,
+// Whether the number of one of the pages has none.
+fn some_other(pages: &[Page], stays: &[Promise]) -> bool
+    ensures { result ≡ list_any (λ page. not (rule.has_stays (map page_of pages.now) (map promise_view stays.now) (page_of page))) pages.now }
+{
+    pages.iter().any(|page| has_none(pages, stays, page))
+}
+
+/// Whether some page is of no number with stays.
+pub fn has_others(pages: &[Page], stays: &[Promise]) -> bool
+    ensures { result ≡ rule.has_others (map page_of pages.now) (map promise_view stays.now) }
+{
+    some_other(pages, stays)
+}
+
+// Whether a page is sent in a round, where a turn has so many laps.
+fn stands(standing: &Standing, laps: usize, round: usize) -> bool
+    requires some { 1 ≤ laps }
+    requires few { laps ≤ 65536 }
+    ensures { result ≡ rule.stands standing.now laps round }
+{
+    match *standing {
+        Standing::Rounds { often, place } => round % rounds_between(often) == place,
+        Standing::Once { turn, place } => round / (8 * laps) == turn && round % (8 * laps) == place,
     }
+}
+
+// Puts a page behind the others, if it is sent.
+fn push_if(order: &mut Vec<usize>, index: usize, sent: bool) -> Result<(), AllocError>
+    ensures { OnOk result (order.new.items ≡ order.old.items ++ (if sent then index ∷ [] else [])) }
+{
+    if sent {
+        order.push(index)?;
+    }
+    Ok(())
 }
 
 // Puts the pages of a round behind the others.
 fn push_round(
     order: &mut Vec<usize>,
     standings: &[Standing],
-    turn: usize,
+    laps: usize,
     round: usize,
 ) -> Result<(), AllocError>
-    ensures { IfOk result (λ _. AreBelow (length standings.now) order.old.items → AreBelow (length standings.now) order.new.items) }
+    requires some { 1 ≤ laps }
+    requires few { laps ≤ 65536 }
+    ensures { OnOk result (order.new.items ≡ order.old.items ++ rule.in_round standings.now laps round (length standings.now)) }
 {
     for index in 0..standings.len() {
-        if stands(standings[index], turn, round) {
-            order.push(index)?;
-        }
+        let sent = stands(&standings[index], laps, round);
+        push_if(order, index, sent)?;
     }
     Ok(())
 }
@@ -185,18 +293,15 @@ pub fn order(
 ) -> Result<Option<Vec<usize>>, AllocError>
     requires some { 1 ≤ laps }
     requires few { laps ≤ 65536 }
-    requires turns { turns ≤ 2000 }
+    requires turns { turns ≤ 2001 }
+    ensures value { IfOk result (λ order. MatchOption order (65536 < length (rule.order standings.now turns laps))
+        (λ order. order.items ≡ rule.order standings.now turns laps)) }
     ensures few { IfOk result (λ order. IfSome order (λ order. length order.items ≤ 65536)) }
     ensures within { IfOk result (λ order. IfSome order (λ order. AreBelow (length standings.now) order.items)) }
 {
     let mut order = Vec::new(alloc);
     for round in 0..8 * laps * turns {
-        push_round(
-            &mut order,
-            standings,
-            round / (8 * laps),
-            round % (8 * laps),
-        )?;
+        push_round(&mut order, standings, laps, round)?;
         if order.len() > 65536 {
             return Ok(None);
         }

@@ -1,14 +1,15 @@
 //! Plans in which subpages stay as long as promised.
 
-ghost use Rattle.std.specs.Prelude.{◌≡◌, ◌+◌, ◌≤◌, length, map, IfOk, List, Some};
-ghost use Rattle.ttx_source.specs.Promises.{PromiseFields};
-ghost use Rattle.ttx_source.specs.Services.{ServiceFields};
+ghost use Rattle.std.specs.Prelude.{◌≡◌, ◌≤◌, length, map, IfOk};
 ghost use Rattle.ttx_source.specs.PromiseViews.{promise_view};
-ghost use Rattle.ttx_carousel.specs.Planning.{IsAttempt, IsShortOrNone, KeepsStays, KeepsOrMisses, AnswersStays};
+ghost use Rattle.ttx_carousel.specs.Orders.{AreBelow};
+ghost use Rattle.ttx_carousel.specs.Planning.{most_laps, IsAttempt, IsCarouselOf, IsCarouselOrNone, IsEnded, IsLaidOut};
+ghost use Rattle.ttx_carousel.specs.Planning.{KeepsStays, KeepsOrMisses, AnswersStays};
 
+use crate::carousel::Carousel;
 use crate::faults::{ShortStay, StayFault};
-use crate::judging::{first_short, judge};
-use crate::layout::{Standing, has_rounds, order, standings, turns};
+use crate::judging::{judge, short_stays};
+use crate::layout::{has_others, order, standings, turns};
 use std::alloc::Global;
 use ttx_cycle::Cycle;
 use ttx_plan::{PlanFault, Receivers, plan_in_order, spread_places};
@@ -16,22 +17,13 @@ use ttx_promise::{Viewers, plan_promises};
 use ttx_source::{Promise, Service};
 use ttx_witness::NoMemory;
 
-// Where the pages of a service stand, and how many turns a cycle has, for these receivers.
-#[derive(Drop)]
-struct Carousel {
-    receivers: Receivers,
-    standings: Vec<Standing>,
-    turns: usize,
-    ghost few: { turns ≤ 2000 },
-}
-
 // What becomes of a number of laps.
 #[derive(Drop)]
 pub enum Attempt {
     // Each number stays as promised.
     Kept { cycle: Cycle },
-    // This one does not.
-    Short { short: ShortStay },
+    // These do not.
+    Short { numbers: Vec<ShortStay> },
     // There is no cycle with so many laps.
     TooLong,
     // An allocation failed.
@@ -45,7 +37,8 @@ fn carousel_of(
     receivers: Receivers,
     stays: &[Promise],
 ) -> Result<Carousel, NoMemory>
-    ensures { IfOk result (λ carousel. length carousel.standings.items ≡ length service.now.pages) }
+    ensures receivers { IfOk result (λ carousel. carousel.receivers ≡ receivers) }
+    ensures is { IfOk result (IsCarouselOf (map promise_view stays.now) service.now) }
 {
     let turns = turns(service.pages(), stays);
     let places = spread_places(service, receivers.class);
@@ -59,26 +52,41 @@ fn carousel_of(
     }
 }
 
-// The cycle of a carousel with so many laps a turn; `None` if it might be too long, or has no pages.
+// The cycle of an order; `None` if it might be too long, or the order is empty.
+fn lay_out_order(
+    alloc: Global,
+    service: &Service,
+    receivers: Receivers,
+    order: &[usize],
+) -> Result<Option<Cycle>, NoMemory>
+    requires few { length order.now ≤ 65536 }
+    requires within { AreBelow (length service.now.pages) order.now }
+    ensures { IfOk result (IsLaidOut receivers service.now order.now) }
+{
+    match plan_in_order(alloc, service, receivers, order) {
+        Ok(cycle) => Ok(Some(cycle)),
+        Err(PlanFault::NoMemory) => Err(NoMemory),
+        Err(_) => Ok(None),
+    }
+}
+
+// The cycle of a carousel with so many laps a turn.
 fn lay_out(
     alloc: Global,
     service: &Service,
+    stays: &[Promise],
     carousel: &Carousel,
     laps: usize,
 ) -> Result<Option<Cycle>, NoMemory>
     requires some { 1 ≤ laps }
     requires few { laps ≤ 65536 }
-    requires each { length carousel.now.standings.items ≡ length service.now.pages }
+    requires is { IsCarouselOf (map promise_view stays.now) service.now carousel.now }
+    ensures { IfOk result (IsCarouselOrNone carousel.now.receivers (map promise_view stays.now) service.now laps) }
 {
-    let order = match order(alloc, &carousel.standings, carousel.turns, laps) {
-        Ok(Some(order)) => order,
-        Ok(None) => return Ok(None),
-        Err(_) => return Err(NoMemory),
-    };
-    match plan_in_order(alloc, service, carousel.receivers, &order) {
-        Ok(cycle) => Ok(Some(cycle)),
-        Err(PlanFault::NoMemory) => Err(NoMemory),
-        Err(_) => Ok(None),
+    match order(alloc, &carousel.standings, carousel.turns, laps) {
+        Ok(Some(order)) => lay_out_order(alloc, service, carousel.receivers, &order),
+        Ok(None) => Ok(None),
+        Err(_) => Err(NoMemory),
     }
 }
 
@@ -92,86 +100,68 @@ fn try_laps(
 ) -> Attempt
     requires some { 1 ≤ laps }
     requires few { laps ≤ 65536 }
-    requires each { length carousel.now.standings.items ≡ length service.now.pages }
-    ensures { IsAttempt (map promise_view stays.now) service.now result }
+    requires is { IsCarouselOf (map promise_view stays.now) service.now carousel.now }
+    ensures { IsAttempt carousel.now.receivers (map promise_view stays.now) service.now laps result }
 {
-    let cycle = match lay_out(alloc, service, carousel, laps) {
+    let cycle = match lay_out(alloc, service, stays, carousel, laps) {
         Ok(Some(cycle)) => cycle,
         Ok(None) => return Attempt::TooLong,
         Err(_) => return Attempt::NoMemory,
     };
-    match first_short(&cycle, service, stays) {
-        Some(short) => Attempt::Short { short },
-        None => Attempt::Kept { cycle },
-    }
-}
-
-// How many laps to try, and the stay of the last cycle.
-#[derive(Clone, Copy)]
-struct Tried {
-    laps: usize,
-    last: Option<ShortStay>,
-}
-
-// More laps: as many as the stay lacks, if it grows with the laps, and one more at least.
-fn further(laps: usize, short: ShortStay) -> Tried
-    requires { laps ≤ 65536 }
-    ensures more { laps + 1 ≤ result.laps }
-    ensures last { result.last ≡ Some short }
-{
-    let fields = short.fields.saturating_add(1);
-    let needed = laps * (short.promise as usize) / fields;
-    Tried {
-        laps: needed.max(laps + 1),
-        last: Some(short),
-    }
-}
-
-// The answer where the laps do not go on: the stay of the last cycle, if there was one.
-fn ended(last: Option<ShortStay>) -> Result<Cycle, StayFault>
-    ensures { (stays : List PromiseFields) (service : ServiceFields) → IsShortOrNone stays service last → KeepsStays stays service result }
-{
-    match last {
-        Some(short) => Err(StayFault::Short { short }),
-        None => Err(StayFault::TooLong),
+    let Ok(numbers) = short_stays(alloc, &cycle, service, stays) else {
+        return Attempt::NoMemory;
+    };
+    if numbers.is_empty() {
+        Attempt::Kept { cycle }
+    } else {
+        Attempt::Short { numbers }
     }
 }
 
 // The most laps to try: more than one is of no use without pages that come in each lap.
-fn most_laps(carousel: &Carousel) -> usize
-    ensures { result ≤ 65536 }
+fn most_laps(service: &Service, stays: &[Promise]) -> usize
+    ensures value { result ≡ most_laps service.now (map promise_view stays.now) }
+    ensures some { 1 ≤ result }
+    ensures few { result ≤ 65536 }
 {
-    if has_rounds(&carousel.standings) {
-        65536
+    if has_others(service.pages(), stays) {
+        32768
     } else {
         1
     }
 }
 
-// A cycle of a carousel in which the numbers stay as promised, with as few laps as are found.
+// The answer where the laps do not go on, for what became of the last.
+fn ended(last: Option<Vec<ShortStay>>) -> Result<Cycle, StayFault>
+    ensures { IsEnded last result }
+{
+    match last {
+        Some(numbers) => Err(StayFault::Short { numbers }),
+        None => Err(StayFault::TooLong),
+    }
+}
+
+// The cycle of a carousel with the fewest laps in which the numbers stay as promised.
 fn keep_stays(
     alloc: Global,
     service: &Service,
     stays: &[Promise],
     carousel: &Carousel,
 ) -> Result<Cycle, StayFault>
-    requires { length carousel.now.standings.items ≡ length service.now.pages }
-    ensures { KeepsStays (map promise_view stays.now) service.now result }
+    requires { IsCarouselOf (map promise_view stays.now) service.now carousel.now }
+    ensures { KeepsStays carousel.now.receivers (map promise_view stays.now) service.now result }
 {
-    let most = most_laps(carousel);
-    let mut tried = Tried {
-        laps: 1,
-        last: None,
-    };
-    while tried.laps <= most {
-        match try_laps(alloc, service, stays, carousel, tried.laps) {
+    let most = most_laps(service, stays);
+    let mut last = None;
+    for laps in 1..most + 1 {
+        match try_laps(alloc, service, stays, carousel, laps) {
             Attempt::Kept { cycle } => return Ok(cycle),
-            Attempt::Short { short } => tried = further(tried.laps, short),
-            Attempt::TooLong => return ended(tried.last),
+            Attempt::Short { numbers } => last = Some(numbers),
+            Attempt::TooLong => return ended(last),
             Attempt::NoMemory => return Err(StayFault::NoMemory),
         }
     }
-    ended(tried.last)
+    ended(last)
 }
 
 // The same of a service.
@@ -181,7 +171,7 @@ fn staying_cycle(
     receivers: Receivers,
     stays: &[Promise],
 ) -> Result<Cycle, StayFault>
-    ensures { KeepsStays (map promise_view stays.now) service.now result }
+    ensures { KeepsStays receivers (map promise_view stays.now) service.now result }
 {
     match carousel_of(alloc, service, receivers, stays) {
         Ok(carousel) => keep_stays(alloc, service, stays, &carousel),
@@ -213,13 +203,15 @@ fn keep_all(
 }
 
 /// A plan of a service in which each page of a number with stays stays as long as promised, and which keeps each promise. A cycle has as
-/// many turns as the number with stays that has the most pages; in each turn one page of such a number is sent, once, whatever the service
-/// says of how often. The other pages are sent as often as the service says in each eight rounds, and each turn has as many laps of eight
-/// rounds as the stays take. `service` becomes that of `plan_promises`, in which promised pages may be sent more often.
+/// many turns as the number with stays that has the most pages; each page of such a number is sent once a cycle, whatever the service says
+/// of how often. The other pages are sent as often as the service says in each eight rounds, and each turn has as many laps of eight rounds
+/// as the stays take, and no more. `service` becomes that of `plan_promises`, in which promised pages may be sent more often. Without stays
+/// the plan is that of `plan_promises`.
 ///
-/// `Promise` is the answer of `plan_promises` where it has no plan. `Short` names the first number that stays too short in the longest cycle
-/// that was tried, `Missed` what is not kept in the cycle that keeps the stays. The search is not complete: another order of the pages may
-/// keep more.
+/// `Promise` is the answer of `plan_promises` if it has no plan. `TooLong`: even one lap a turn might take more than 65,536 slots. `Short`
+/// names the numbers that stay too short with the most laps that fit; with each smaller number of laps some number stays too short too.
+/// `Missed` names what is not kept in the cycle with the fewest laps in which the stays are kept. After `NoMemory` nothing is known of
+/// `service`. Another order of the pages may keep more.
 pub fn plan_stays(
     alloc: Global,
     service: &mut Service,
@@ -231,8 +223,12 @@ pub fn plan_stays(
     requires few_repeats { viewers.repeat ≤ 8 }
     ensures { AnswersStays viewers (map promise_view promises.now) (map promise_view stays.now) service.old service.new result }
 {
-    match plan_promises(alloc, service, viewers, promises) {
-        Ok(_) => keep_all(alloc, &*service, viewers, promises, stays),
-        Err(fault) => Err(StayFault::Promise { fault }),
+    let cycle = match plan_promises(alloc, service, viewers, promises) {
+        Ok(cycle) => cycle,
+        Err(fault) => return Err(StayFault::Promise { fault }),
+    };
+    if stays.is_empty() {
+        return Ok(cycle);
     }
+    keep_all(alloc, &*service, viewers, promises, stays)
 }

@@ -130,7 +130,7 @@ module _ (laws : StreamLaws) (near : OwnersAreNear) (again : CyclesRepeat) (c : 
             (f.next.none_between i a (omega (arith, ints))))).0
       ]
 
-  sends : SendsListed s (lists_of c) lines mag number
+  pub sends : SendsListed s (lists_of c) lines mag number
   sends = record {
     slots = λ j. (B.joined_clean laws c is both alike j).0;
     clean = λ j. (B.joined_clean laws c is both alike j).1;

@@ -1,2 +1,3 @@
 mod JoinedNumbers
+mod ScheduledNumbers
 mod LateVerdicts

@@ -1,13 +1,15 @@
 //! Changes for receivers that show a page only where it ends: whether one that is tuned to a page number shows an old page or a new one
-//! through the change from one cycle to another, and never a mixture of both.
+//! through the change from one cycle to another, and through all changes of a schedule, and never a mixture.
 #![tactic(auto)]
 
+mod editions;
 mod files;
 mod judging;
 pub mod laws;
 mod lines;
 mod verdict;
 
+pub use editions::open_between;
 pub use files::splice_files_late;
 pub use judging::late_splice;
 pub use lines::late_splice_line;

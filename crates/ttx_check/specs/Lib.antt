@@ -9,5 +9,6 @@ pub mod Parts
 pub mod PartViews
 pub mod Spots
 pub mod Refusals
+pub mod ShortStays
 pub mod Reports
 pub mod Checking

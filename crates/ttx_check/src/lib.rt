@@ -12,6 +12,7 @@ mod refusals;
 mod reports;
 mod rows;
 mod service_warnings;
+mod short_stays;
 pub mod spots;
 mod tallies;
 mod texts;

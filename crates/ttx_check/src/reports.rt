@@ -5,15 +5,19 @@ ghost use Rattle.toml.specs.View.{table_view};
 ghost use Rattle.ttx_check.specs.Refusals.{IsErrorLine};
 ghost use Rattle.ttx_check.specs.Reports as rule;
 ghost use Rattle.ttx_source.specs.Faults.{fault_of};
-ghost use Rattle.ttx_source.specs.Promises.{read_promises};
+ghost use Rattle.ttx_source.specs.Promises.{read_promises, read_stays};
+ghost use Rattle.ttx_source.specs.PromiseViews.{promise_view};
 
 use crate::refusals::error_line;
 use crate::service_warnings::warnings;
+use crate::short_stays::push_short_stays;
 use crate::unknown_keys::push_keys;
 use crate::warning_lines::push_warnings;
 use std::alloc::{AllocError, Global};
 use toml::Table;
-use ttx_source::{Service, SourceError, SourceFault, read_promises, read_service};
+use ttx_source::{
+    Promise, Service, SourceError, SourceFault, read_promises, read_service, read_stays,
+};
 
 /// The report on a text, and the status.
 #[derive(Drop)]
@@ -34,24 +38,36 @@ fn lines_or_count(alloc: Global, count: usize, lines: String) -> Result<String, 
     }
 }
 
-// The report on a service and its table.
-fn service_report(alloc: Global, table: &Table, service: &Service) -> Result<String, AllocError>
-    ensures { IfOk result (λ text. string_bytes text ≡ rule.report (table_view table.now) service.now) }
+// The report on a service, its stays and its table.
+fn service_report(
+    alloc: Global,
+    table: &Table,
+    service: &Service,
+    stays: &[Promise],
+) -> Result<String, AllocError>
+    ensures { IfOk result (λ text. string_bytes text ≡ rule.report (table_view table.now) service.now (map promise_view stays.now)) }
 {
     let mut lines = String::new(alloc);
     push_keys(alloc, &mut lines, table, service.pages())?;
     let found = warnings(alloc, service)?;
     push_warnings(&mut lines, &found)?;
+    push_short_stays(&mut lines, service.pages(), stays)?;
     lines_or_count(alloc, service.pages().len(), lines)
 }
 
 // The report on an accepted text. The text is read a second time for its keys, so this read can fail only for want of memory.
-fn read_report(alloc: Global, bytes: &[u8], service: &Service) -> Result<Checked, AllocError>
-    ensures { IfOk result (λ report. rule.IsRead bytes.now service.now (string_bytes report.text) × (report.status ≡ 0)) }
+fn read_report(
+    alloc: Global,
+    bytes: &[u8],
+    service: &Service,
+    stays: &[Promise],
+) -> Result<Checked, AllocError>
+    ensures { IfOk result (λ report.
+        rule.IsRead bytes.now service.now (map promise_view stays.now) (string_bytes report.text) × (report.status ≡ 0)) }
 {
     match toml::table_from_slice(alloc, bytes) {
         Ok(table) => Ok(Checked {
-            text: service_report(alloc, &table, service)?,
+            text: service_report(alloc, &table, service, stays)?,
             status: 0,
         }),
         Err(_) => Err(AllocError),
@@ -68,13 +84,13 @@ fn refusal(alloc: Global, bytes: &[u8], error: &SourceError) -> Result<Checked, 
     })
 }
 
-// The report on a text whose service is accepted, and whose promises may be refused.
-fn promised_report(alloc: Global, bytes: &[u8], service: &Service) -> Result<Checked, AllocError>
+// The report on a text whose service and promises are accepted, and whose stays may be refused.
+fn stay_report(alloc: Global, bytes: &[u8], service: &Service) -> Result<Checked, AllocError>
     ensures { IfOk result (λ report.
-        rule.IsPromiseReport bytes.now service.now (read_promises bytes.now) (string_bytes report.text) report.status) }
+        rule.IsStayReport bytes.now service.now (read_stays bytes.now) (string_bytes report.text) report.status) }
 {
-    match read_promises(alloc, bytes) {
-        Ok(_) => read_report(alloc, bytes, service),
+    match read_stays(alloc, bytes) {
+        Ok(stays) => read_report(alloc, bytes, service, &stays),
         Err(
             SourceError {
                 fault: SourceFault::NoMemory,
@@ -85,7 +101,24 @@ fn promised_report(alloc: Global, bytes: &[u8], service: &Service) -> Result<Che
     }
 }
 
-/// The report on a text: one line if the service or one of its promises is refused, otherwise the warnings. `Err` if memory runs out.
+// The report on a text whose service is accepted, and whose promises may be refused.
+fn promised_report(alloc: Global, bytes: &[u8], service: &Service) -> Result<Checked, AllocError>
+    ensures { IfOk result (λ report.
+        rule.IsPromiseReport bytes.now service.now (read_promises bytes.now) (string_bytes report.text) report.status) }
+{
+    match read_promises(alloc, bytes) {
+        Ok(_) => stay_report(alloc, bytes, service),
+        Err(
+            SourceError {
+                fault: SourceFault::NoMemory,
+                page: _,
+            },
+        ) => Err(AllocError),
+        Err(error) => refusal(alloc, bytes, &error),
+    }
+}
+
+/// The report on a text: one line if the service, one of its promises or one of its stays is refused, otherwise the warnings. `Err` if memory runs out.
 pub fn report(alloc: Global, bytes: &[u8]) -> Result<Checked, AllocError>
     ensures { IfOk result (λ report. rule.IsServiceReport bytes.now (string_bytes report.text) report.status) }
 {

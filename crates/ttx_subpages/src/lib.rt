@@ -21,7 +21,7 @@ pub use files::certify_files_numbers;
 pub use intervals::longest_interval;
 pub use lack::Lack;
 pub use lacks::first_lack;
-pub use number_lines::numbers_verdict_text;
+pub use number_lines::{numbers_verdict_text, push_number};
 pub use numbers::count_of;
 pub use reports::{NumberReport, number_reports};
 pub use stays::{greatest_interval, least_stay};

@@ -18,8 +18,8 @@ use ttx_late::{LateVerdict, late_verdict_line};
 use ttx_page::Item;
 use ttx_witness::{Certificate, NoMemory, push_item};
 
-// Appends the number of a page, as in `110`.
-pub(crate) fn push_number(text: &mut String, page: PageId) -> Result<(), AllocError>
+/// Appends the number of a page, as in `110`.
+pub fn push_number(text: &mut String, page: PageId) -> Result<(), AllocError>
     ensures { OnOk result (string_bytes text.new ≡ string_bytes text.old ++ number_text page) }
 {
     text.push(digit(page.mag()))?;

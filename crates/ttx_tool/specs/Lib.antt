@@ -9,6 +9,7 @@ pub mod Receive
 pub mod Show
 pub mod Plan
 pub mod Promised
+pub mod SpreadPlans
 pub mod Preview
 pub mod Extract
 pub mod Find

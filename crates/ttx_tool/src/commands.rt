@@ -27,6 +27,7 @@ pub mod show;
 pub mod splice;
 pub mod splice_late;
 pub mod splice_sent;
+mod stays;
 pub mod version;
 pub mod wait;
 pub mod wait_numbers;

@@ -1,8 +1,9 @@
 use Rattle.std.proofs.Common.{◌≡◌, map, ap, ◌∙◌, subst}
 use Rattle.ttx_cycle.specs.Cycles.{slots_of}
 use Rattle.ttx_source.specs.PromiseViews.{promise_view}
+use Rattle.ttx_carousel.specs.Judging.{IsShownLate}
 use Rattle.ttx_carousel.specs.Waiting.{told_of, AllHaveFields, IsFirstWithout, AreInTime, IsFirstLateIn}
-use Rattle.ttx_carousel.proofs.JudgedWaits.{all_told, all_seen, all_kept, is_unseen, is_first_late}
+use Rattle.ttx_carousel.proofs.JudgedWaits.{all_told, all_seen, all_kept, is_unseen, is_first_late, judged_rest}
 use Rattle.ttx_carousel.proofs.judging.judge.Goals as goal
 
 pub returns-in-Some : goal.returns-in-Some
@@ -32,10 +33,11 @@ returns c =
     let again : map told_of c.deref-2.result.now ≡ w.told =
     ap (map told_of) (c.deref-2.ensures.value ∙ w.beside_promises) ∙ all_told 0 (map promise_view c.args.promises.now) w.told in
     let has = subst AllHaveFields told c.in_default.ensures in
-    record {
-      seen = all_seen (slots_of c.args.cycle.now) c.args.service.now c.args.viewers.receivers.class c.args.viewers.repeat w.told w.waits has;
-      kept = all_kept (slots_of c.args.cycle.now) c.args.service.now c.args.viewers.receivers.class c.args.viewers.repeat w.told w.waits has
-          (map promise_view c.args.promises.now)
-          (subst (λ t. AreInTime t (map promise_view c.args.promises.now)) again c.in_default-first_late.ensures);
-      followed = c.in-None.ensures;
-    }
+    judged_rest c.args.viewers (map promise_view c.args.promises.now) c.args.service.now (slots_of c.args.cycle.now)
+    (all_seen (slots_of c.args.cycle.now) c.args.service.now c.args.viewers.receivers.class c.args.viewers.repeat w.told w.waits has)
+    (all_kept (slots_of c.args.cycle.now) c.args.service.now c.args.viewers.receivers.class c.args.viewers.repeat w.told w.waits has
+    (map promise_view c.args.promises.now)
+    (subst (λ t. AreInTime t (map promise_view c.args.promises.now)) again c.in_default-first_late.ensures))
+    c.never_shown.result
+    (subst (λ ps. IsShownLate c.args.viewers.receivers.late (slots_of c.args.cycle.now) ps c.never_shown.result) c.pages.ensures.value
+    c.never_shown.ensures)

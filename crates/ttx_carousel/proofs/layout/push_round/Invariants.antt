@@ -1,6 +1,6 @@
-use Rattle.std.proofs.Common.{length}
-use Rattle.ttx_carousel.specs.Orders.{AreBelow}
+use Rattle.std.proofs.Common.{◌≡◌, ◌++◌}
+use Rattle.ttx_carousel.specs.Layout.{in_round}
 use Rattle.ttx_carousel.proofs.layout.push_round.Given as goal
 
 abbrev pub invariant-loop-index : goal.invariant-loop-index
-invariant-loop-index l = AreBelow (length l.standings) l.fn.order.items → AreBelow (length l.standings) l.order.items
+invariant-loop-index l = l.order.items ≡ l.fn.order.items ++ in_round l.standings l.laps l.round l.index

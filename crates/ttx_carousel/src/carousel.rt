@@ -1,0 +1,15 @@
+//! Where the pages of a service stand, and for whom.
+
+ghost use Rattle.std.specs.Prelude.{◌≤◌};
+
+use crate::layout::Standing;
+use ttx_plan::Receivers;
+
+/// Where the pages of a service stand, and how many turns a cycle has, for these receivers.
+#[derive(Drop)]
+pub struct Carousel {
+    pub receivers: Receivers,
+    pub standings: Vec<Standing>,
+    pub turns: usize,
+    ghost few: { turns ≤ 2001 },
+}
