@@ -186,3 +186,19 @@ for lines in 32 16 12 1; do
     printf '%-34s %10s %26s\n' "$count slots, $lines to a field" "$(tenths "$send")" "$((count / send))"
 done
 echo "send: goal at least 20 millions a second"
+
+# an hour of the shipped example: 180,000 fields of 12 lines
+echo
+example=$top/examples/broadcast.toml
+"$program" plan "$example" example.t42 > /dev/null
+"$program" find example.t42 "$example" example.cert --repeat 2 > /dev/null
+"$program" send example.t42 --at 61000/120000 --fields 180000 --lines 12 > hour.t42
+printf '%-42s %12s %14s %16s\n' 'monitor, 2,160,000 slots' 'ms' 'sha256sum, ms' 'slots a second'
+hash=$(least sha256sum hour.t42)
+for options in "" --all "--all --every 3000"; do
+    # the options are split into words here
+    # shellcheck disable=SC2086
+    monitor=$(least "$program" monitor example.t42 "$example" example.cert hour.t42 $options)
+    printf '%-42s %12s %14s %16s\n' "no error${options:+, $options}" "$(tenths "$monitor")" "$(tenths "$hash")" "$((2160000000000 / monitor))"
+done
+echo "monitor: goal at most 1000 ms, at least 10000000 slots a second"

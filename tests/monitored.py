@@ -3,12 +3,13 @@
 
 usage: monitored.py PROGRAM [COUNT]
 
-A feed is what a receiver got of a cycle that is sent again and again, from any slot on, with clocks as they may be, wrong bits within the
+Half of the feeds are judged, the others are reported while they come: `--all`, `--every` with random fields, or both. A feed is what a receiver got of a cycle that is sent again and again, from any slot on, with clocks as they may be, wrong bits within the
 error rule and outside of it, lost slots, slots where none was sent, and a rest. The slot that it begins with is named or found, and it is
 read from a file or from standard input. The plain program in this script says what the error rule says: an empty slot is received empty,
 each other byte with one wrong bit at most, and of any K successive transmissions of a text byte one is received right; clocks in page
 headers and packets 8/30 are free. It says too where the feed has slipped: a slot does not fit, nor do most of the next period, but so many
-slots on in the cycle most of them do, and the first packet among them. Feeds of the first cycle begin with each of its slots.
+slots on in the cycle most of them do, and the first packet among them. Feeds of the first cycle begin with each of its slots. Last, cycles
+are sent by `send` with the time, and the packets judged from some slot on.
 """
 import os
 import random
@@ -138,6 +139,78 @@ def verdict(cycle, ids, repeat, feed, rest, named):
     return 0, text + (f"rest {rest} bytes\n" if rest else "")
 
 
+class Heard:
+    """A feed that is heard slot by slot from slot `start` of the cycle on."""
+
+    def __init__(self, cycle, ids, repeat, start):
+        self.cycle, self.ids, self.repeat, self.place = cycle, ids, repeat, start % len(cycle)
+        self.streaks, self.longest = {}, 0
+
+    def streak(self, received):
+        """Counts the streaks of a slot's text; the first byte that has been wrong in `repeat` transmissions, and its item."""
+        text, sent, found = self.cycle.texts[self.place], self.cycle.slots[self.place], None
+        if text is None or text[0] not in self.ids:
+            return None
+        for x in range(10, 34) if text[1] == 0 else range(2, 42):
+            streak = min(self.streaks.get((*text, x), 0) + 1, self.repeat) if sent[x] != received[x] else 0
+            self.streaks[(*text, x)] = streak
+            self.longest = max(self.longest, streak)
+            if streak == self.repeat and found is None:
+                found = f"{text[0]} {'head' if text[1] == 0 else f'row {text[1]}'} byte {x}"
+        return found
+
+    def hear(self, window):
+        """What the first of these slots does: by how much the feed has slipped, how it breaks the rule, its wrong bytes, its wrong bits."""
+        cycle, received = self.cycle, window[0]
+        by = cycle.slip(self.place, window) if cycle.far(self.place, received) is not None else None
+        if by is not None:
+            self.place = (self.place + by) % len(cycle)
+            self.streaks, self.longest = {}, 0
+        sent, far, compared = cycle.slots[self.place], cycle.far(self.place, received), cycle.compared[self.place]
+        repeated = self.streak(received)
+        way = None
+        if far is not None:
+            way = "unlike" if sent == EMPTY else "lost" if received == EMPTY else f"byte {far}"
+        wrong = sum(sent[x] != received[x] for x in range(compared))
+        bits = 0 if EMPTY in (sent, received) else sum(bin(sent[x] ^ received[x]).count("1") for x in range(compared))
+        self.place = (self.place + 1) % len(cycle)
+        return by, way, repeated, wrong, bits
+
+
+def reported(cycle, ids, repeat, feed, rest, named, lines, every, tell_all):
+    """The status and the text of a report."""
+    start = cycle.start_of(feed) if named is None else named
+    heard, text = Heard(cycle, ids, repeat, start), ""
+    wrong = bits = lost = breaches = most = 0
+    for n in range(len(feed)):
+        by, way, repeated, more, more_bits = heard.hear(feed[n:n + len(cycle)])
+        told = []
+        if by is not None:
+            told.append(f"no slot {n} shifted by {signed(by, len(cycle))}")
+        if way is not None:
+            told.append(f"no slot {n} {way}")
+        elif repeated is not None:
+            told.append(f"no repeat {repeated} slot {n}")
+        wrong, bits, lost, breaches = wrong + more, bits + more_bits, lost + (way == "lost"), breaches + bool(told)
+        most = max(most, heard.longest)
+        if tell_all:
+            text += "".join(line + "\n" for line in told)
+        if every is not None and (n + 1) % (every * lines) == 0:
+            text += f"slots {n + 1} wrong {wrong} streak {most} lost {lost}\n"
+        if told and not tell_all:
+            return 1, text + f"{told[0]} start {start}\n"
+    minute = 3000 * lines
+    if breaches:
+        text += f"no start {start} slots {len(feed)} wrong {wrong} streak {most} breaches {breaches}\n"
+    else:
+        text += f"yes start {start} slots {len(feed)} wrong {wrong} streak {most}\n"
+    text += f"rest {rest} bytes\n" if rest else ""
+    if tell_all:
+        a_minute = [count * minute // len(feed) if feed else 0 for count in (lost, bits)]
+        text += f"total lost {lost} bits {bits} minute lost {a_minute[0]} bits {a_minute[1]}\n"
+    return 1 if breaches else 0, text
+
+
 def flip(feed, n, x, bits=1):
     slot = bytearray(feed[n])
     slot[x] ^= bits
@@ -189,19 +262,20 @@ def damaged(draw, cycle, ids, start, count, repeat):
     return feed
 
 
-def told(program, feed, rest, named, piped):
+def told(program, feed, rest, named, piped, more=()):
     """The status and the text of the program."""
     data = b"".join(feed) + bytes(rest)
     with open("feed", "wb") as file:
         file.write(data)
     words = [program, "monitor", "cycle", "service", "cert", "-" if piped else "feed"]
     words += [] if named is None else ["--start", str(named)]
+    words += more
     done = subprocess.run(words, input=data if piped else b"", capture_output=True, timeout=60, check=False)
     return done.returncode, done.stdout.decode() + done.stderr.decode()
 
 
 def plan(program, draw):
-    """A planned cycle with a certificate of a random repeat count: the cycle, the ids of its pages, and the count."""
+    """A planned cycle with a certificate of a random repeat count: the cycle, the ids of its pages, the count, and the lines."""
     while True:
         text, ids = service(draw)
         repeat = draw.choice([1, 2, 2, 3])
@@ -212,18 +286,29 @@ def plan(program, draw):
         with open("cycle", "rb") as file:
             cycle = Cycle(file.read())
         if len(cycle) <= 200:
-            return cycle, ids, repeat
+            return cycle, ids, repeat, int(text.split()[2])
+
+
+def sends(program, draw):
+    """What `monitor` says of a sent cycle, from some slot on, and what it should say."""
+    cycle, _, _, lines = plan(program, draw)
+    fields, cut = draw.randint(1, 3 * len(cycle) // lines + 2), draw.randrange(2 * len(cycle))
+    words = [program, "send", "cycle", "--fields", str(fields), "--lines", str(lines), "--at", "46000/123045"]
+    sent = subprocess.run(words, capture_output=True, timeout=60, check=True).stdout
+    feed = [sent[i:i + 42] for i in range(0, len(sent), 42)][cut:]
+    got = told(program, feed, 0, cut % len(cycle), draw.random() < 0.5)
+    return got, (0, f"yes start {cut % len(cycle)} slots {len(feed)} wrong 0 streak 0\n")
 
 
 def main():
     program = os.path.abspath(sys.argv[1])
-    count = int(sys.argv[2]) if len(sys.argv) > 2 else 300
+    count = int(sys.argv[2]) if len(sys.argv) > 2 else 2000
     draw = random.Random(52)
     failed = made = 0
     with tempfile.TemporaryDirectory() as folder:
         os.chdir(folder)
         while made < count:
-            cycle, ids, repeat = plan(program, draw)
+            cycle, ids, repeat, lines = plan(program, draw)
             # of the first service, a feed from every slot on
             starts = range(len(cycle)) if made == 0 else [draw.randrange(len(cycle)) for _ in range(10)]
             for start in starts:
@@ -232,12 +317,26 @@ def main():
                 feed = damaged(draw, cycle, ids, start, slots, repeat)
                 named = draw.choice([None, None, start, start + len(cycle), draw.randrange(65536)])
                 rest = draw.choice([0, 0, 1, 41])
-                wanted = verdict(cycle, ids, repeat, feed, rest, named)
-                got = told(program, feed, rest, named, draw.random() < 0.5)
+                tell_all, every = draw.choice([(False, None)] * 3 + [(True, None), (True, draw.randint(1, 60)), (False, draw.randint(1, 60))])
+                more = (["--all"] if tell_all else []) + ([] if every is None else ["--every", str(every)])
+                if tell_all:
+                    for n in draw.sample(range(len(feed)), min(len(feed), draw.choice([0, 1, 5]))):
+                        feed[n] = EMPTY
+                if more:
+                    wanted = reported(cycle, ids, repeat, feed, rest, named, lines, every, tell_all)
+                else:
+                    wanted = verdict(cycle, ids, repeat, feed, rest, named)
+                got = told(program, feed, rest, named, draw.random() < 0.5, more)
                 made += 1
                 if got != wanted:
                     failed += 1
-                    print(f"feed {made}, start {start}, named {named}: {got}, not {wanted}")
+                    print(f"feed {made}, start {start}, named {named}, {more}: {got}, not {wanted}")
+        for _ in range(30):
+            got, wanted = sends(program, draw)
+            made += 1
+            if got != wanted:
+                failed += 1
+                print(f"sent feed: {got}, not {wanted}")
     print(f"monitored: {made} feeds, {failed} failed")
     return 1 if failed else 0
 

@@ -51,3 +51,15 @@ pub fn not_built(rt: &HostRuntime) -> u8 {
     let _ = rt.eprintln("refused: not built yet");
     1
 }
+
+/// The status of a command on a file of these first bytes; where they are no slots, says what they are.
+pub fn diagnosed(rt: &HostRuntime, bytes: &[u8], status: u8) -> u8 {
+    if status >= FAULT {
+        return status;
+    }
+    let mut errors = Counted::new(rt.stderr());
+    status_of(
+        rt,
+        commands::diagnosis::run(rt.alloc(), bytes, status, &mut errors),
+    )
+}

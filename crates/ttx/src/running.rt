@@ -36,12 +36,12 @@ pub fn run_order(rt: &HostRuntime, order: &Order<'_>) -> Outcome {
         Order::Certify(order) => certificates::certify(rt, order),
         Order::Refute(order) => counter_runs::refute(rt, order),
         Order::Replay(order) => counter_runs::replay(rt, order),
-        Order::Receive { cycle, tuning } => screens::receive(rt, cycle, tuning, None),
+        Order::Receive { cycle, tuning } => screens::receive(rt, cycle, tuning),
         Order::Show {
             cycle,
             tuning,
             look,
-        } => screens::receive(rt, cycle, tuning, Some(look)),
+        } => screens::show(rt, cycle, tuning, look),
         Order::Preview {
             service,
             selection,

@@ -1,12 +1,14 @@
 //! The commands that take a cycle alone: `inspect`, `pages`, `book`, `extract`.
 
 use super::Outcome;
-use super::inputs::buffered;
+use super::inputs::{buffered, recorded};
 use crate::devices::{Input, create_out, open_input};
-use crate::reports::{report, status_of};
+use crate::reports::{diagnosed, report, status_of};
 use std::fs::File;
 use std::io;
+use std::io::BufReader;
 use ttx_cycle::Counted;
+use ttx_recognition::Recorded;
 use ttx_tool::{ExtractionFault, ToolFault, commands};
 
 fn inspect_input(rt: &HostRuntime, input: Input) -> Result<u8, ToolFault> {
@@ -20,37 +22,52 @@ pub fn inspect(rt: &HostRuntime, file: &str) -> Outcome {
     Ok(status_of(rt, inspect_input(rt, open_input(rt, file)?)))
 }
 
-fn pages_of(rt: &HostRuntime, input: Input) -> Result<u8, ToolFault> {
-    let mut reader = buffered(rt, input)?;
+// A packet file, of which the first bytes are kept.
+type PacketFile = Counted<Recorded<BufReader<Input>>>;
+
+fn pages_of(rt: &HostRuntime, reader: &mut PacketFile) -> Result<u8, ToolFault> {
     let mut writer = Counted::new(io::writer(rt));
-    commands::pages::run(rt.alloc(), &mut reader, &mut writer)
+    commands::pages::run(rt.alloc(), reader, &mut writer)
 }
 
 /// Tells which pages a cycle has.
 pub fn pages(rt: &HostRuntime, cycle: &str) -> Outcome {
-    Ok(status_of(rt, pages_of(rt, open_input(rt, cycle)?)))
+    let mut reader = match recorded(rt, open_input(rt, cycle)?) {
+        Ok(reader) => reader,
+        Err(fault) => return Ok(report(rt, &fault)),
+    };
+    let status = status_of(rt, pages_of(rt, &mut reader));
+    Ok(diagnosed(rt, reader.get_ref().kept(), status))
 }
 
-fn book_of(rt: &HostRuntime, input: Input, out: File) -> Result<u8, ToolFault> {
-    let mut reader = buffered(rt, input)?;
+fn book_of(rt: &HostRuntime, reader: &mut PacketFile, out: File) -> Result<u8, ToolFault> {
     let mut file = Counted::new(out);
-    commands::book::run(rt.alloc(), &mut reader, &mut file)
+    commands::book::run(rt.alloc(), reader, &mut file)
 }
 
 /// Opens the cycle, makes the book's file anew, and writes all pages of the cycle to it.
 pub fn book(rt: &HostRuntime, cycle: &str, out: &str) -> Outcome {
     let cycle = open_input(rt, cycle)?;
-    match create_out(rt, &[&cycle], out)? {
-        Some(file) => Ok(status_of(rt, book_of(rt, cycle, file))),
-        None => Ok(report(rt, &ToolFault::Same)),
-    }
+    let Some(file) = create_out(rt, &[&cycle], out)? else {
+        return Ok(report(rt, &ToolFault::Same));
+    };
+    let mut reader = match recorded(rt, cycle) {
+        Ok(reader) => reader,
+        Err(fault) => return Ok(report(rt, &fault)),
+    };
+    let status = status_of(rt, book_of(rt, &mut reader, file));
+    Ok(diagnosed(rt, reader.get_ref().kept(), status))
 }
 
-fn extract_from(rt: &HostRuntime, input: Input, lines: u8, out: File) -> Result<u8, ToolFault> {
-    let mut reader = buffered(rt, input)?;
+fn extract_from(
+    rt: &HostRuntime,
+    reader: &mut PacketFile,
+    lines: u8,
+    out: File,
+) -> Result<u8, ToolFault> {
     let mut file = Counted::new(out);
     let mut writer = Counted::new(io::writer(rt));
-    match commands::extract::run(rt.alloc(), &mut reader, lines, &mut file, &mut writer) {
+    match commands::extract::run(rt.alloc(), reader, lines, &mut file, &mut writer) {
         Ok(status) => Ok(status),
         Err(ExtractionFault::Tool(fault)) => Err(fault),
         Err(ExtractionFault::Refused(fault)) => {
@@ -63,8 +80,13 @@ fn extract_from(rt: &HostRuntime, input: Input, lines: u8, out: File) -> Result<
 /// Opens the cycle, makes the service's file anew, and writes the service that the cycle sends to it.
 pub fn extract(rt: &HostRuntime, cycle: &str, out: &str, lines: u8) -> Outcome {
     let cycle = open_input(rt, cycle)?;
-    match create_out(rt, &[&cycle], out)? {
-        Some(file) => Ok(status_of(rt, extract_from(rt, cycle, lines, file))),
-        None => Ok(report(rt, &ToolFault::Same)),
-    }
+    let Some(file) = create_out(rt, &[&cycle], out)? else {
+        return Ok(report(rt, &ToolFault::Same));
+    };
+    let mut reader = match recorded(rt, cycle) {
+        Ok(reader) => reader,
+        Err(fault) => return Ok(report(rt, &fault)),
+    };
+    let status = status_of(rt, extract_from(rt, &mut reader, lines, file));
+    Ok(diagnosed(rt, reader.get_ref().kept(), status))
 }

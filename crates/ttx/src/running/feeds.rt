@@ -7,6 +7,7 @@ use crate::reports::{not_built, status_of};
 use std::io;
 use ttx_arguments::MonitorOrder;
 use ttx_cycle::Counted;
+use ttx_monitor::Asked;
 use ttx_tool::{ToolFault, commands};
 
 fn monitor_feed(
@@ -29,12 +30,38 @@ fn monitor_feed(
     )
 }
 
-/// Opens the cycle, the service, the certificate and the feed, and judges the feed.
+fn report_feed(rt: &HostRuntime, claim: Claim, feed: Input, asked: Asked) -> Result<u8, ToolFault> {
+    let mut readers = claim.readers(rt)?;
+    let mut feed = buffered(rt, feed)?;
+    let mut writer = Counted::new(io::writer(rt));
+    commands::monitor_reports::run(
+        rt.alloc(),
+        &mut readers.cycle,
+        &mut readers.service,
+        &mut readers.text,
+        asked,
+        &mut feed,
+        &mut writer,
+    )
+}
+
+/// Opens the cycle, the service, the certificate and the feed, and judges the feed, or reports it while it comes.
 pub fn monitor(rt: &HostRuntime, order: &MonitorOrder<'_>) -> Outcome {
-    if order.all || order.every.is_some() || order.rows || order.json {
+    if order.rows || order.json {
         return Ok(not_built(rt));
     }
     let claim = Claim::open(rt, order.cycle, order.service, order.certificate)?;
     let feed = open_input(rt, order.feed)?;
-    Ok(status_of(rt, monitor_feed(rt, claim, feed, order.start)))
+    if !order.all && order.every.is_none() {
+        return Ok(status_of(rt, monitor_feed(rt, claim, feed, order.start)));
+    }
+    let asked = Asked {
+        start: order.start,
+        all: order.all,
+        every: match order.every {
+            Some(fields) => Some(fields.count()),
+            None => None,
+        },
+    };
+    Ok(status_of(rt, report_feed(rt, claim, feed, asked)))
 }

@@ -5,6 +5,7 @@ use std::io;
 use std::io::BufReader;
 use ttx_cycle::Counted;
 use ttx_files::FilesFault;
+use ttx_recognition::Recorded;
 use ttx_tool::ToolFault;
 
 /// A buffered reader of an input.
@@ -13,6 +14,14 @@ pub fn buffered(rt: &HostRuntime, input: Input) -> Result<Counted<BufReader<Inpu
         Ok(reader) => Ok(Counted::new(reader)),
         Err(_) => Err(ToolFault::Files(FilesFault::NoMemory)),
     }
+}
+
+/// A buffered reader of an input, which keeps the first bytes that are read through it.
+pub fn recorded(
+    rt: &HostRuntime,
+    input: Input,
+) -> Result<Counted<Recorded<BufReader<Input>>>, ToolFault> {
+    Ok(Counted::new(Recorded::new(buffered(rt, input)?.into_inner())))
 }
 
 /// The readers of a cycle and of the service that it is to send.

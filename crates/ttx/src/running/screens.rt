@@ -1,33 +1,47 @@
 //! The commands that show a page: `receive`, `show`, `preview`.
 
 use super::Outcome;
-use super::inputs::buffered;
+use super::inputs::{buffered, recorded};
 use crate::devices::{Input, open_input};
-use crate::reports::status_of;
+use crate::reports::{diagnosed, report, status_of};
 use std::io;
+use std::io::BufReader;
 use ttx_arguments::{Look, Tuning};
 use ttx_cycle::Counted;
 use ttx_page::Selection;
+use ttx_recognition::Recorded;
 use ttx_tool::{ToolFault, commands};
 
-// Shows a page as it is asked for, or writes what is held of it word by word.
-fn receive_input(
+fn show_input(
     rt: &HostRuntime,
-    input: Input,
+    reader: &mut Counted<Recorded<BufReader<Input>>>,
     tuning: &Tuning,
-    look: Option<&Look<'_>>,
+    look: &Look<'_>,
 ) -> Result<u8, ToolFault> {
-    let mut reader = buffered(rt, input)?;
     let mut writer = Counted::new(io::writer(rt));
-    match look {
-        Some(look) => commands::show::run(rt.alloc(), &mut reader, tuning, look, &mut writer),
-        None => commands::receive::run(rt.alloc(), &mut reader, tuning, &mut writer),
-    }
+    commands::show::run(rt.alloc(), reader, tuning, look, &mut writer)
 }
 
-/// Opens the cycle, and shows a page as a receiver shows it; with no look what is held of it, word by word.
-pub fn receive(rt: &HostRuntime, cycle: &str, tuning: &Tuning, look: Option<&Look<'_>>) -> Outcome {
-    Ok(status_of(rt, receive_input(rt, open_input(rt, cycle)?, tuning, look)))
+/// Opens the cycle, and shows a page as a receiver shows it.
+pub fn show(rt: &HostRuntime, cycle: &str, tuning: &Tuning, look: &Look<'_>) -> Outcome {
+    let mut reader = match recorded(rt, open_input(rt, cycle)?) {
+        Ok(reader) => reader,
+        Err(fault) => return Ok(report(rt, &fault)),
+    };
+    let status = status_of(rt, show_input(rt, &mut reader, tuning, look));
+    Ok(diagnosed(rt, reader.get_ref().kept(), status))
+}
+
+// Writes what is held of a page word by word.
+fn receive_input(rt: &HostRuntime, input: Input, tuning: &Tuning) -> Result<u8, ToolFault> {
+    let mut reader = buffered(rt, input)?;
+    let mut writer = Counted::new(io::writer(rt));
+    commands::receive::run(rt.alloc(), &mut reader, tuning, &mut writer)
+}
+
+/// Opens the cycle, and writes what a receiver holds of a page, word by word.
+pub fn receive(rt: &HostRuntime, cycle: &str, tuning: &Tuning) -> Outcome {
+    Ok(status_of(rt, receive_input(rt, open_input(rt, cycle)?, tuning)))
 }
 
 fn preview_input(

@@ -1,0 +1,5 @@
+mod PlacedRows
+mod MutedFeeds
+mod ReceivedFeeds
+mod HeardByRows
+mod HeardRows

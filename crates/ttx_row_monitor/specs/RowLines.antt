@@ -1,0 +1,34 @@
+-- The lines that say what is said of a feed by the rule by rows (profile).
+--
+--   row_way_text            how a slot breaks the rule
+--   row_text                the text of a verdict
+--   IsRowTold               the verdict on a feed, and its text
+use Rattle.std.specs.Prelude.{◌≡◌, ℕ, List, [], ◌∷◌, ◌++◌, codes, Option}
+use Rattle.std.specs.Fmt.{decimal}
+use Rattle.ttx_page.specs.Pages.{Page}
+use Rattle.ttx_witness.specs.Coverage.{Certificate}
+use Rattle.ttx_recognition.specs.Lines.{unlike_line}
+use Rattle.ttx_monitor.specs.FeedLines.{start_text, rest_text, page_text, way_text}
+use Rattle.ttx_row_monitor.specs.RowVerdicts.{IsRowVerdict}
+use Rattle.ttx_row_monitor.specs.declared.breach.RowBreach.{RowBreach}
+use Rattle.ttx_row_monitor.specs.declared.breach.RowBreach.TheVariants.{Slot, Row}
+use Rattle.ttx_row_monitor.specs.declared.verdict.RowVerdict.{RowVerdict}
+use Rattle.ttx_row_monitor.specs.declared.verdict.RowVerdict.TheVariants.{Unlike, Yes, No}
+
+abbrev pub yes_text : ℕ → ℕ → ℕ → List ℕ
+yes_text start slots lost = codes "yes start " ++ decimal start ++ codes " slots " ++ decimal slots ++ codes " lost " ++ decimal lost ++ 10 ∷ []
+
+abbrev pub row_way_text : List Page → ℕ → RowBreach → List ℕ
+row_way_text pages slot (Slot breach) = way_text pages slot breach
+row_way_text pages slot (Row page row) =
+    codes "no repeat " ++ page_text pages page ++ codes " row " ++ decimal row ++ codes " slot " ++ decimal slot
+
+abbrev pub row_text : List Page → RowVerdict → List ℕ
+row_text pages (Unlike unlike) = unlike_line unlike
+row_text pages (Yes start slots lost rest) = yes_text start slots lost ++ rest_text rest
+row_text pages (No start slot breach) = row_way_text pages slot breach ++ start_text start
+
+pub record IsRowTold (cycle : List (List ℕ)) (pages : List Page) (c : Certificate) (named : Option ℕ) (bytes : List ℕ) (verdict : RowVerdict)
+    (text : List ℕ) : Type 0 where
+  pub exact : IsRowVerdict cycle pages c named bytes verdict
+  pub text_is : text ≡ row_text pages verdict

@@ -1,0 +1,126 @@
+#!/usr/bin/env python3
+"""Runs `monitor`, `pages`, `show`, `book` and `extract` of the built program on packets that are delivered in other forms than slots of 42 bytes,
+and compares the line that says so with that of a plain program.
+
+usage: recognised.py PROGRAM [COUNT]
+
+The packets of the shipped example come with a framing code or with clock run-in too, from any byte of a packet on, with the bits of each byte
+in reverse order, with wrong bits, or as no teletext at all. The plain program in this script looks for the first form of whose packets four
+read, and half of those that are not empty, wherever of the slots of 42 bytes not one in ten does.
+"""
+import os
+import random
+import subprocess
+import sys
+import tempfile
+
+# Hamming 8/4 (EN 300 706, 8.2)
+WORDS = bytes.fromhex("1502495e6473382fd0c78c9ba1b6fdea")
+EMPTY = bytes(42)
+READ = [next((n for n, word in enumerate(WORDS) if bin(word ^ byte).count("1") <= 1), None) for byte in range(256)]
+ODD = [bin(byte).count("1") % 2 for byte in range(256)]
+TURNED = bytes(int(f"{byte:08b}"[::-1], 2) for byte in range(256))
+
+
+def reads(packet):
+    """Whether a packet reads as one of teletext."""
+    low, high = READ[packet[0]], READ[packet[1]]
+    if packet == EMPTY or low is None or high is None:
+        return False
+    number = low // 8 + 2 * high
+    if number <= 24:
+        if number == 0 and any(READ[byte] is None for byte in packet[2:10]):
+            return False
+        text = packet[10:] if number == 0 else packet[2:]
+        return 4 * sum(ODD[byte] for byte in text) >= 3 * len(text)
+    if number == 27 and READ[packet[2]] is None:
+        return False
+    return all(byte in WORDS for byte in packet[:3])
+
+
+def counted(data, size, off, turned):
+    """How many packets of a form are not empty, and how many read."""
+    whole = range(max(len(data) - off, 0) // size)
+    packets = [data[off + size * i + size - 42:off + size * (i + 1)] for i in whole]
+    packets = [packet.translate(TURNED) if turned else packet for packet in packets]
+    return sum(packet != EMPTY for packet in packets), sum(map(reads, packets))
+
+
+def line(data):
+    """The line for a file or a feed of these bytes, or nothing."""
+    data = data[:64 * 42]
+    sent, read = counted(data, 42, 0, False)
+    if sent < 8 or 10 * read >= sent:
+        return ""
+    for turned in (False, True):
+        for size in (42, 43, 45):
+            for off in range(size):
+                sent, read = counted(data, size, off, turned)
+                if read >= 4 and sent <= 2 * read:
+                    skip = f"; skip {off} at the start" if off else ""
+                    order = "; reverse the bits of each byte" if turned else ""
+                    framing = f"; drop the first {size - 42} of each" if size > 42 else ""
+                    return f"no slots: packets of {size} bytes{skip}{order}{framing}\n"
+    return "no slots: no teletext\n"
+
+
+def delivered(draw, slots):
+    """Packets from some slot on, in some form."""
+    start, count = draw.randrange(len(slots)), draw.choice([3, 20, 70, 200])
+    packets = [slots[(start + n) % len(slots)] for n in range(count)]
+    kind = draw.choice(["slots", "framed", "run-in", "noise", "zeros"])
+    if kind == "noise":
+        return bytes(draw.randrange(256) for _ in range(42 * count))
+    if kind == "zeros":
+        return bytes(42 * count)
+    before = {"slots": b"", "framed": draw.choice([b"\x27", b"\xe4"]), "run-in": b"\x55\x55\x27"}[kind]
+    data = bytearray(b"".join(before + packet for packet in packets))
+    for at in draw.sample(range(len(data)), int(draw.choice([0, 0, 0.02, 0.1, 0.3]) * len(data))):
+        data[at] ^= 1 << draw.randrange(8)
+    data = bytes(data)[draw.choice([0, 0, draw.randrange(45)]):]
+    return data.translate(TURNED) if draw.random() < 0.4 else data
+
+
+def main():
+    program = os.path.abspath(sys.argv[1])
+    count = int(sys.argv[2]) if len(sys.argv) > 2 else 200
+    draw = random.Random(52)
+    top = os.path.dirname(os.path.dirname(os.path.abspath(__file__)))
+    failed = 0
+
+    def told(words, given=b""):
+        done = subprocess.run([program, *words], input=given, capture_output=True, timeout=60, check=False)
+        return done.returncode, done.stdout.decode(errors="replace"), done.stderr.decode(errors="replace")
+
+    with tempfile.TemporaryDirectory() as folder:
+        os.chdir(folder)
+        service = f"{top}/examples/broadcast.toml"
+        told(["plan", service, "cycle"])
+        told(["find", "cycle", service, "cert"])
+        with open("cycle", "rb") as file:
+            cycle = file.read()
+        slots = [cycle[i:i + 42] for i in range(0, len(cycle), 42)]
+        for n in range(count):
+            data = delivered(draw, slots)
+            with open("feed", "wb") as file:
+                file.write(data)
+            # a feed is judged by its whole slots
+            wanted = line(data[:len(data) // 42 * 42])
+            status, said, _ = told(["monitor", "cycle", service, "cert", "-"], data) if n % 2 else told(["monitor", "cycle", service, "cert", "feed"])
+            every = told(["monitor", "cycle", service, "cert", "feed", "--all", "--every", "1"])
+            if (said == wanted) != (wanted != "") or (wanted and (status, said, "") != (1, wanted, "") or wanted and every != (1, wanted, "")):
+                failed += 1
+                print(f"feed {n}: {status} {said!r} {every}, not {wanted!r}")
+            wanted = line(data)
+            for words in (["pages", "feed"], ["show", "feed", "100"], ["book", "feed", "out"], ["extract", "feed", "out", "--lines", "12"]):
+                status, _, errors = told(words)
+                if errors.endswith(wanted) and ("no slots" in errors) == (wanted != "") and (status == 1 or not wanted):
+                    continue
+                failed += 1
+                print(f"{words[0]} of feed {n}: {status} {errors!r}, not {wanted!r}")
+    print(f"recognised: {count} feeds, {failed} failed")
+    return 1 if failed else 0
+
+
+if __name__ == "__main__":
+    sys.exit(main())
