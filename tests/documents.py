@@ -257,6 +257,22 @@ def wrong_crates():
     yield from (f"README.md does not say that {name} is trusted" for name in sorted(outside - listed("README.md", "**Trusted**")))
 
 
+def wrong_reasons():
+    """Reasons whose lines differ in the table of `explain` and in docs/CERTIFICATES.md and docs/SPLICES.md."""
+    entries = re.findall(r'key: "([^"]*)",\s*name: "([^"]*)",\s*line: "([^"]*)"', (TOP / "crates/ttx_reasons/src/reasons.rt").read_text())
+    lines = {line for _, _, line in entries}
+    documents = [(TOP / "docs" / name).read_text() for name in ("CERTIFICATES.md", "SPLICES.md")]
+    rows = {line for text in documents for line in re.findall(r"^\| `(no [^`]*)` \|", text, re.M)}
+    yield from (f"the table of explain has no line {line}" for line in sorted(rows - lines))
+    yield from (f"CERTIFICATES.md and SPLICES.md have no line {line}" for line in sorted(lines) if not any(f"`{line}`" in text for text in documents))
+    for key, name, line in entries:
+        number = line.split()[1] if line.split()[1].isdigit() else ""
+        if key.removeprefix("splice-") != (number or name) or name != line.split()[2 if number else 1]:
+            yield f"the table of explain has {key} {name} with {line}"
+    if len({key for key, _, _ in entries} | {name for _, name, _ in entries}) < 2 * len(entries) - 2 or len(rows) < 24:
+        yield "the table of explain has a key or a name twice, or the documents have less than 24 reasons"
+
+
 def wrong_reach():
     """Whether docs/HEADLINE.md says how many files of definitions `certify` reaches."""
     files = {file for file, _ in reached("ttx_certify", "certify")}
@@ -335,7 +351,7 @@ def main():
     documents = [TOP / "README.md", *sorted((TOP / "docs").glob("*.md")), TOP / "tests/README.md"]
     count, faults = failed_examples(documents, program) if program else (0, [])
     helps = help_texts(program) if program else {}
-    faults += [*(f"CONTRACTS.md: {fault}" for fault in index_faults()), *wrong_crates(), *wrong_reach()]
+    faults += [*(f"CONTRACTS.md: {fault}" for fault in index_faults()), *wrong_crates(), *wrong_reach(), *wrong_reasons()]
     for document in documents:
         faults += [f"{document.name}: no file {link}" for link in dead_links(document)]
         faults += [f"{document.name}: {fault}" for fault in unknown_names(document, helps)]

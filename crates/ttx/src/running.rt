@@ -15,6 +15,7 @@ use crate::reports::{not_built, status_of};
 use std::io;
 use ttx_arguments::Order;
 use ttx_cycle::Counted;
+use ttx_reasons::REASONS;
 use ttx_tool::{ToolFault, commands};
 
 // The status of a command, whose fault has been reported. An error is that of a file that can't be opened.
@@ -24,6 +25,13 @@ type Outcome = io::Result<u8>;
 fn version(rt: &HostRuntime) -> Result<u8, ToolFault> {
     let mut writer = Counted::new(io::writer(rt));
     commands::version::run(&mut writer).map(|()| 0)
+}
+
+// Says what a reason means; of a word that is none, standard error has the nearest one.
+fn explain(rt: &HostRuntime, reason: &str) -> Result<u8, ToolFault> {
+    let mut writer = Counted::new(io::writer(rt));
+    let mut errors = Counted::new(rt.stderr());
+    commands::explain::run(rt.alloc(), &REASONS, reason, &mut writer, &mut errors)
 }
 
 /// Opens the inputs in the order of the arguments, makes the output file anew where it is none of them, and runs the command. An
@@ -52,12 +60,10 @@ pub fn run_order(rt: &HostRuntime, order: &Order<'_>) -> Outcome {
         Order::Wait(order) => certificates::wait(rt, order),
         Order::Send(order) => sends::send(rt, order),
         Order::Air(_) | Order::AirReplay(_) | Order::Report(_) => Ok(not_built(rt)),
-        Order::Compose { .. } | Order::Decompose { .. } | Order::Explain { .. } => {
-            Ok(not_built(rt))
-        }
+        Order::Compose { .. } | Order::Decompose { .. } => Ok(not_built(rt)),
+        Order::Explain { reason } => Ok(status_of(rt, explain(rt, reason))),
         Order::Monitor(order) => feeds::monitor(rt, order),
-        Order::Pages { json: true, .. } => Ok(not_built(rt)),
-        Order::Pages { cycle, .. } => cycles::pages(rt, cycle),
+        Order::Pages { cycle, json } => cycles::pages(rt, cycle, *json),
         Order::Book { cycle, out } => cycles::book(rt, cycle, out),
         Order::Extract { partial: true, .. } => Ok(not_built(rt)),
         Order::Extract {

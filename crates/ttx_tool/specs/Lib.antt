@@ -25,3 +25,4 @@ pub mod WaitNumbers
 pub mod Send
 pub mod Beginnings
 pub mod Version
+pub mod Explain

@@ -5,9 +5,11 @@
 pub mod beginnings;
 pub mod book;
 pub mod certify;
+pub mod certify_all;
 pub mod certify_numbers;
 pub mod certify_within;
 pub mod check;
+pub mod explain;
 pub mod extract;
 pub mod find;
 pub mod find_deadline;

@@ -58,6 +58,18 @@ fn certify_readers_numbers(rt: &HostRuntime, readers: &mut ClaimReaders) -> Resu
     )
 }
 
+// The same with the first reason of each page.
+fn certify_readers_all(rt: &HostRuntime, readers: &mut ClaimReaders) -> Result<u8, ToolFault> {
+    let mut writer = Counted::new(io::writer(rt));
+    commands::certify_all::run(
+        rt.alloc(),
+        &mut readers.cycle,
+        &mut readers.service,
+        &mut readers.text,
+        &mut writer,
+    )
+}
+
 fn certify_claim(
     rt: &HostRuntime,
     claim: Claim,
@@ -66,6 +78,7 @@ fn certify_claim(
     let mut readers = claim.readers(rt)?;
     match order.within {
         None if order.numbers => certify_readers_numbers(rt, &mut readers),
+        None if order.all => certify_readers_all(rt, &mut readers),
         None => certify_readers(rt, &mut readers, order.late),
         Some(fields) => certify_readers_within(rt, &mut readers, fields.count()),
     }
@@ -96,7 +109,7 @@ fn certify_twice(rt: &HostRuntime, first: Input, claim: Claim) -> Result<u8, Too
 
 /// Opens the cycle, once more where it is read twice, the service and the certificate, and judges the cycle by the certificate.
 pub fn certify(rt: &HostRuntime, order: &CertifyOrder<'_>) -> Outcome {
-    if order.all || order.json {
+    if order.json {
         return Ok(not_built(rt));
     }
     if order.twice && !order.late {

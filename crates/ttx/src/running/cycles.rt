@@ -20,15 +20,19 @@ pub fn inspect(rt: &HostRuntime, file: &str) -> Outcome {
     Ok(status_of(rt, inspect_input(rt, open_input(rt, file)?)))
 }
 
-fn pages_of(rt: &HostRuntime, input: Input) -> Result<u8, ToolFault> {
+fn pages_of(rt: &HostRuntime, input: Input, json: bool) -> Result<u8, ToolFault> {
     let mut reader = buffered(rt, input)?;
     let mut writer = Counted::new(io::writer(rt));
-    commands::pages::run(rt.alloc(), &mut reader, &mut writer)
+    if json {
+        commands::pages::run_json(rt.alloc(), &mut reader, &mut writer)
+    } else {
+        commands::pages::run(rt.alloc(), &mut reader, &mut writer)
+    }
 }
 
 /// Tells which pages a cycle has.
-pub fn pages(rt: &HostRuntime, cycle: &str) -> Outcome {
-    Ok(status_of(rt, pages_of(rt, open_input(rt, cycle)?)))
+pub fn pages(rt: &HostRuntime, cycle: &str, json: bool) -> Outcome {
+    Ok(status_of(rt, pages_of(rt, open_input(rt, cycle)?, json)))
 }
 
 fn book_of(rt: &HostRuntime, input: Input, out: File) -> Result<u8, ToolFault> {

@@ -16,7 +16,8 @@ use ttx_certify::{Verdict, certify_files, certify_passes};
 use ttx_cycle::Counted;
 use ttx_late::{LateVerdict, certify_files_late};
 
-fn verdict_status(verdict: Verdict) -> u8
+/// 0 for a yes, 1 for a no.
+pub(super) fn verdict_status(verdict: Verdict) -> u8
     ensures { result ≡ verdict_status verdict }
 {
     match verdict {

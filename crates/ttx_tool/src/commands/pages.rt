@@ -6,6 +6,7 @@ ghost use Rattle.ttx_files.specs.Answers.{IsUntouched};
 ghost use Rattle.ttx_files.specs.Devices.{AtCycle, input, output};
 ghost use Rattle.ttx_pages.specs.Listing.{pages_text};
 ghost use Rattle.ttx_pages.specs.Paging.{WritesTextOf};
+ghost use Rattle.ttx_pages.specs.Records.{pages_records};
 ghost use Rattle.ttx_tool.specs.Answers.{pages_status, IsAnswered};
 ghost use Rattle.ttx_tool.specs.Devices.{is_tool_write, Fails};
 
@@ -13,7 +14,7 @@ use crate::faults::ToolFault;
 use std::alloc::Global;
 use std::io::{Read, Write};
 use ttx_cycle::Counted;
-use ttx_pages::pages;
+use ttx_pages::{pages, pages_json};
 
 /// Reads a packet file and writes a line for each page that has a header in it, by rising page numbers, and a line for what belongs to
 /// no page. The status is 0.
@@ -32,6 +33,24 @@ pub fn run<R: Read, W: Write>(
     ensures untouched { IsUntouched is_tool_write result writer.old writer.new }
 {
     match pages(alloc, reader, writer) {
+        Ok(()) => Ok(0),
+        Err(fault) => Err(ToolFault::Files(fault)),
+    }
+}
+
+/// The same as JSON objects with the names and values of the lines.
+pub fn run_json<R: Read, W: Write>(
+    alloc: Global,
+    reader: &mut Counted<R>,
+    writer: &mut Counted<W>,
+) -> Result<u8, ToolFault>
+    ensures bytes { IsAnswered pages_status (λ answer. IfSome (R.remaining (inner_of reader.old))
+        (λ bytes. WritesTextOf pages_records bytes (W.contents (inner_of writer.old)) (W.contents (inner_of writer.new)) answer)) result }
+    ensures faults { Fails (input AtCycle (R.remaining (inner_of reader.old)) (faults_of reader.old) (faults_of reader.new)
+        ∷ output (faults_of writer.old) (faults_of writer.new) ∷ []) result }
+    ensures untouched { IsUntouched is_tool_write result writer.old writer.new }
+{
+    match pages_json(alloc, reader, writer) {
         Ok(()) => Ok(0),
         Err(fault) => Err(ToolFault::Files(fault)),
     }

@@ -1,0 +1,40 @@
+//! `explain`: what a reason means, and what to do.
+
+ghost use Rattle.std.specs.Prelude.{◌<◌, ◌∷◌, [], length};
+ghost use Rattle.ttx_cycle.specs.Counters.{inner_of, faults_of};
+ghost use Rattle.ttx_files.specs.Devices.{output};
+ghost use Rattle.ttx_tool.specs.Devices.{Fails};
+ghost use Rattle.ttx_tool.specs.Explain.{Explains};
+
+use super::reports::write_text;
+use crate::faults::ToolFault;
+use std::alloc::Global;
+use std::io::Write;
+use ttx_cycle::Counted;
+use ttx_files::FilesFault;
+use ttx_reasons::{Entry, explain};
+
+/// Writes what a reason of the table means and what to do, by its number or its name: the status is 0. Of any other word it writes the
+/// nearest name to `errors`: the status is 2.
+pub fn run<W: Write, E: Write>(
+    alloc: Global,
+    table: &[Entry],
+    reason: &str,
+    writer: &mut Counted<W>,
+    errors: &mut Counted<E>,
+) -> Result<u8, ToolFault>
+    requires { 0 < length table.now }
+    ensures bytes { Explains table.now reason.now (W.contents (inner_of writer.old)) (W.contents (inner_of writer.new))
+        (E.contents (inner_of errors.old)) (E.contents (inner_of errors.new)) result }
+    ensures faults { Fails (output (faults_of writer.old) (faults_of writer.new) ∷ output (faults_of errors.old) (faults_of errors.new) ∷ [])
+        result }
+{
+    let Ok(explained) = explain(alloc, table, reason) else {
+        return Err(ToolFault::Files(FilesFault::NoMemory));
+    };
+    if explained.known {
+        write_text(writer, explained.text.as_str(), 0)
+    } else {
+        write_text(errors, explained.text.as_str(), 2)
+    }
+}
