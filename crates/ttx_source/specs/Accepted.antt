@@ -1,10 +1,7 @@
 -- What each key of a service definition takes, in words (profile).
 --
 --   takes_of                what a key takes
---   all_keys, takes         all keys; what the key of a name takes
-use Rattle.std.specs.Prelude.{List, [], ◌∷◌, codes, find, option_map, unwrap_or, ℕ}
-use Rattle.std.specs.Str.{bytes_eq}
-use Rattle.ttx_source.specs.KeyFaults.{key_name}
+use Rattle.std.specs.Prelude.{List, codes, ℕ}
 use Rattle.ttx_source.specs.declared.keys.Key.{Key}
 use Rattle.ttx_source.specs.declared.keys.Key.TheVariants as key
 
@@ -37,11 +34,3 @@ takes_of key.Row24 = codes "true or false"
 takes_of key.Crc = codes "a text of four hexadecimal digits"
 takes_of key.Within = codes "seconds from 0.02 to 20000, an integer or a float"
 takes_of key.Stays = codes "seconds from 0.02 to 20000, an integer or a float"
-
-unfoldable pub all_keys : List Key
-all_keys =
-    key.Lines ∷ key.Serial ∷ key.Info ∷ key.Designation ∷ key.Initial ∷ key.Network ∷ key.Halves ∷ key.Mjd ∷ key.Utc ∷ key.Text ∷ key.Page ∷ key.Number ∷ key.Sub ∷ key.Often
-    ∷ key.Option ∷ key.Newsflash ∷ key.Subtitle ∷ key.Suppress ∷ key.Update ∷ key.Interrupted ∷ key.Inhibit ∷ key.Head ∷ key.Rows ∷ key.Links ∷ key.Row24 ∷ key.Crc ∷ key.Within ∷ key.Stays ∷ []
-
-unfoldable pub takes : List ℕ → List ℕ
-takes name = unwrap_or (option_map takes_of (find (λ k. bytes_eq (key_name k) name) all_keys)) []

@@ -16,6 +16,6 @@ pub mod texts;
 pub mod values;
 
 pub use faults::{SourceError, SourceFault};
-pub use promises::{Promise, promises_of_table, read_promises, read_stays};
+pub use promises::{Promise, promises_of_table, read_promises, read_stays, stays_of_table};
 pub use reading::{read_service, service_of_table};
 pub use services::Service;

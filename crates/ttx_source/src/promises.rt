@@ -190,3 +190,14 @@ pub fn read_stays(alloc: Global, bytes: &[u8]) -> Result<Vec<Promise>, SourceErr
         Err(fault) => Err(fault.source_error()),
     }
 }
+
+/// The stays of the service in the table of a text, or the first fault, as `read_stays` reads them.
+pub fn stays_of_table(alloc: Global, table: &Table) -> Result<Vec<Promise>, SourceError>
+    ensures { IsSourceUnlessMemory result (outcome_in_page (λ ps. map promise_view ps.items) result
+        ≡ rule.promises_of (codes "stays") (table_view table.now)) }
+{
+    match promises_of(alloc, Key::Stays, table) {
+        Ok(stays) => Ok(stays),
+        Err(fault) => Err(fault.source_error()),
+    }
+}
