@@ -46,6 +46,12 @@ pub fn status_of(rt: &HostRuntime, outcome: Result<u8, ToolFault>) -> u8 {
     }
 }
 
+/// Says that a command or an option has no body yet, and answers the status.
+pub fn not_built(rt: &HostRuntime) -> u8 {
+    let _ = rt.eprintln("refused: not built yet");
+    1
+}
+
 /// The status of a command on a file of these first bytes; where they are no slots, says what they are.
 pub fn diagnosed(rt: &HostRuntime, bytes: &[u8], status: u8) -> u8 {
     if status >= FAULT {

@@ -11,7 +11,7 @@ mod services;
 mod splices;
 mod zones;
 
-use crate::reports::status_of;
+use crate::reports::{not_built, status_of};
 use std::io;
 use ttx_arguments::Order;
 use ttx_cycle::Counted;
@@ -58,6 +58,10 @@ pub fn run_order(rt: &HostRuntime, order: &Order<'_>) -> Outcome {
         Order::Splice(order) => splices::splice(rt, order),
         Order::Wait(order) => certificates::wait(rt, order),
         Order::Send(order) => sends::send(rt, order),
+        Order::Air(_) => Ok(not_built(rt)),
+        Order::Report(_) => Ok(not_built(rt)),
+        Order::Compose { .. } => Ok(not_built(rt)),
+        Order::Decompose { .. } => Ok(not_built(rt)),
         Order::Explain { reason } => Ok(status_of(rt, explain(rt, reason))),
         Order::Monitor(order) => feeds::monitor(rt, order),
         Order::Pages { cycle, json } => cycles::pages(rt, cycle, *json),

@@ -11,7 +11,7 @@ use Rattle.ttx_arguments.specs.Grammar.{ttx_app}
 use Rattle.ttx_arguments.specs.Orders.{Asks, order_at}
 use Rattle.ttx_arguments.specs.Moments.{moment_of}
 use Rattle.ttx_arguments.specs.Seconds.{fields_of, hundredths_of}
-use Rattle.ttx_arguments.specs.Examples.{VersionWords, CertifyWords, SendWords, PlanWords, SecondsTexts, FindWords, RepeatWords, SpliceWords, WaitWords, MonitorWords, ExplainWords, TwiceWords}
+use Rattle.ttx_arguments.specs.Examples.{VersionWords, CertifyWords, SendWords, PlanWords, SecondsTexts, FindWords, RepeatWords, SpliceWords, WaitWords, MonitorWords, ExplainWords, AirWords, ComposeWords, TwiceWords}
 
 pub version_words : VersionWords
 unfolding ttx_app walked bundle_met chars encode_utf8 flags_pass walk_passes flags_fault walk_fault defaults_fault
@@ -72,11 +72,27 @@ wait_words names = (inl (refl, refl), inl (refl, refl), inl (refl, refl), inl (r
 
 pub monitor_words : MonitorWords
 unfolding ttx_app walked bundle_met chars encode_utf8 flags_pass walk_passes flags_fault walk_fault defaults_fault Asks order_at command_named
-monitor_words names = (inl (refl, refl), inl (refl, refl), inl (refl, refl), inl (refl, refl), refl)
+monitor_words names = (
+  inl (refl, refl),
+  inl (refl, refl),
+  inl (refl, refl),
+  inl (refl, refl),
+  inl (refl, refl),
+  inl (refl, refl),
+  refl,
+)
 
 pub explain_words : ExplainWords
 unfolding ttx_app walked bundle_met chars encode_utf8 flags_pass walk_passes flags_fault walk_fault defaults_fault Asks order_at command_named
 explain_words names = (inl (refl, refl), inl (refl, refl), inl (refl, refl))
+
+pub air_words : AirWords
+unfolding ttx_app walked bundle_met chars encode_utf8 flags_pass walk_passes flags_fault walk_fault defaults_fault Asks order_at command_named fields_of hundredths_of decimal_in two_decimals moment_of
+air_words names = (inl (refl, refl), inl (refl, refl), inl (refl, refl), inl (refl, refl), inl (refl, refl), refl)
+
+pub compose_words : ComposeWords
+unfolding ttx_app walked bundle_met chars encode_utf8 flags_pass walk_passes flags_fault walk_fault defaults_fault Asks order_at command_named
+compose_words names = inl (refl, refl)
 
 pub twice_words : TwiceWords
 unfolding ttx_app walked bundle_met chars encode_utf8 flags_pass walk_passes flags_fault walk_fault defaults_fault Asks order_at command_named

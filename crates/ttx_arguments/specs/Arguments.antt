@@ -61,11 +61,24 @@ id_of argument.Twice = codes "twice"
 id_of argument.Reveal = codes "reveal"
 id_of argument.Items = codes "items"
 id_of argument.Force = codes "force"
+id_of argument.Author = codes "author"
+id_of argument.Composed = codes "out"
+id_of argument.Decomposed = codes "out"
+id_of argument.Reported = codes "out"
 id_of argument.Reason = codes "reason"
+id_of argument.Watched = codes "service"
+id_of argument.AirWithin = codes "within"
+id_of argument.AirAt = codes "at"
+id_of argument.AirFields = codes "fields"
+id_of argument.AirLog = codes "log"
 id_of argument.Every = codes "every"
+id_of argument.Date = codes "date"
+id_of argument.AirLate = codes "late"
+id_of argument.AtOnce = codes "at-once"
 id_of argument.Json = codes "json"
 id_of argument.MonitorAll = codes "all"
 id_of argument.CertifyAll = codes "all"
+id_of argument.Rows = codes "rows"
 
 -- Ranges of numbers are inclusive.
 abbrev pub takes_of : Argument → Takes
@@ -97,15 +110,24 @@ takes_of argument.Twice = takes.Nothing
 takes_of argument.Reveal = takes.Nothing
 takes_of argument.Items = takes.Nothing
 takes_of argument.Force = takes.Nothing
+takes_of argument.AirWithin = takes.Text
+takes_of argument.AirAt = takes.Text
+takes_of argument.AirFields = takes.Number 0 4294967295
+takes_of argument.AirLog = takes.Text
 takes_of argument.Every = takes.Number 1 1000000
+takes_of argument.Date = takes.Text
+takes_of argument.AirLate = takes.Nothing
+takes_of argument.AtOnce = takes.Nothing
 takes_of argument.Json = takes.Nothing
 takes_of argument.MonitorAll = takes.Nothing
 takes_of argument.CertifyAll = takes.Nothing
+takes_of argument.Rows = takes.Nothing
 takes_of _ = takes.Operand
 
 -- an operand always has to be there
 abbrev pub is_needed : Argument → Bool
 is_needed argument.NeededLines = true
+is_needed argument.AirWithin = true
 is_needed argument.Fields = true
 is_needed argument.At = true
 is_needed _ = false
@@ -117,6 +139,7 @@ is_input argument.Service = true
 is_input argument.Certificate = true
 is_input argument.Counter = true
 is_input argument.Feed = true
+is_input argument.Author = true
 is_input argument.Old = true
 is_input argument.New = true
 is_input argument.OldService = true
@@ -144,6 +167,10 @@ name_of command.Book = codes "book"
 name_of command.Extract = codes "extract"
 name_of command.Check = codes "check"
 name_of command.Version = codes "version"
+name_of command.Air = codes "air"
+name_of command.Compose = codes "compose"
+name_of command.Decompose = codes "decompose"
+name_of command.Report = codes "report"
 name_of command.Explain = codes "explain"
 
 abbrev pub arguments_of : CommandName → List Argument
@@ -168,12 +195,18 @@ arguments_of command.Send =
     argument.Cycle ∷ argument.At ∷ argument.Fields ∷ argument.NeededLines ∷ argument.Phase ∷ argument.Offset ∷ argument.Zone ∷ argument.Force ∷ []
 arguments_of command.Monitor =
     argument.Cycle ∷ argument.Service ∷ argument.Certificate ∷ argument.Feed ∷ argument.FeedStart ∷ argument.MonitorAll
-    ∷ argument.Every ∷ []
+    ∷ argument.Every ∷ argument.Rows ∷ []
 arguments_of command.Pages = argument.Cycle ∷ argument.Json ∷ []
 arguments_of command.Book = argument.Cycle ∷ argument.Book ∷ []
 arguments_of command.Extract = argument.Cycle ∷ argument.Extracted ∷ argument.NeededLines ∷ []
 arguments_of command.Check = argument.Service ∷ []
 arguments_of command.Version = []
+arguments_of command.Air =
+    argument.Watched ∷ argument.AirWithin ∷ argument.Repeat ∷ argument.AirAt ∷ argument.Zone ∷ argument.Offset ∷ argument.AirFields
+    ∷ argument.AirLate ∷ argument.AtOnce ∷ argument.Spread ∷ argument.AirLog ∷ argument.Force ∷ []
+arguments_of command.Compose = argument.Author ∷ argument.Composed ∷ []
+arguments_of command.Decompose = argument.Service ∷ argument.Decomposed ∷ []
+arguments_of command.Report = argument.Cycle ∷ argument.Service ∷ argument.Certificate ∷ argument.Reported ∷ argument.Date ∷ []
 arguments_of command.Explain = argument.Reason ∷ []
 
 abbrev pub named_in : Text → List CommandName → CommandName

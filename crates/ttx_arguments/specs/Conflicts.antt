@@ -23,6 +23,8 @@ abbrev pub conflicts_of : CommandName → List Conflict
 conflicts_of command.Certify =
     apart argument.CertifyAll argument.Late ∷ apart argument.CertifyAll argument.Numbers ∷ apart argument.CertifyAll argument.Twice
     ∷ apart argument.CertifyAll argument.Within ∷ []
+conflicts_of command.Monitor = apart argument.Rows argument.MonitorAll ∷ apart argument.Rows argument.Every ∷ []
+conflicts_of command.Air = apart argument.AirLate argument.AtOnce ∷ []
 conflicts_of _ = []
 
 abbrev pub is_there_as : Takes → Argument → List Row → Bool

@@ -9,6 +9,7 @@
 --   SpliceWords, WaitWords   a number that need not be there; options without a value
 --   MonitorWords             a slot that need not be there, and two inputs that are standard input
 --   ExplainWords             an operand that names no file; an option of one command, and no other
+--   AirWords, ComposeWords   when nothing is said of the time, the end and the receivers; an input and an output that are standard streams
 --   TwiceWords               standard input for two inputs, and for a cycle that is read twice
 use Rattle.std.specs.Prelude.{◌≡◌, ℕ, pos, negsuc, Bool, List, [], ◌∷◌, ◌++◌, Option, Some, None, Ok, Err, codes, true, false}
 use Rattle.clap.specs.Words.{Text, fault_of}
@@ -16,6 +17,7 @@ use Rattle.clap.specs.declared.error.kind.ErrorKind.TheVariants.{DisplayVersion,
 use Rattle.ttx_page.specs.declared.class.Class.TheVariants.{Any}
 use Rattle.ttx_arguments.specs.Grammar.{ttx_app}
 use Rattle.ttx_arguments.specs.Orders.{Asks, OrderView, certify_order, find_order, monitor_order, plan_order, send_order, splice_order, wait_order, no_time, two_clocks, no_seconds, two_deadlines, within_and_more, numbers_unfit, named_twice, apart, explain_order, pages_order}
+use Rattle.ttx_arguments.specs.Orders.{air_order, compose_order}
 use Rattle.ttx_arguments.specs.Seconds.{fields_of}
 use Rattle.ttx_arguments.specs.Timings.{StartView, start_now, start_utc, start_text, ClockView, clock_ahead, clock_in}
 use Rattle.ttx_arguments.specs.declared.arguments.Argument.TheVariants as argument
@@ -137,14 +139,16 @@ WaitWords =
 abbrev monitor_texts : List Text
 monitor_texts = codes "monitor" ∷ codes "c" ∷ codes "s" ∷ codes "k" ∷ codes "-" ∷ []
 
-abbrev monitored : Option ℕ → Bool → Option ℕ → OrderView
-monitored start all every = monitor_order (codes "c") (codes "s") (codes "k") (codes "-") start all every
+abbrev monitored : Option ℕ → Bool → Option ℕ → Bool → OrderView
+monitored start all every rows = monitor_order (codes "c") (codes "s") (codes "k") (codes "-") start all every rows
 
 abbrev pub MonitorWords : Type 0
 MonitorWords =
-    (names : Names) → Asks (ttx_app names) monitor_texts (Ok (monitored None false None))
-    × Asks (ttx_app names) (monitor_texts ++ codes "--start=0" ∷ []) (Ok (monitored (Some 0) false None))
-    × Asks (ttx_app names) (monitor_texts ++ codes "--all" ∷ codes "--every=1000000" ∷ []) (Ok (monitored None true (Some 1000000)))
+    (names : Names) → Asks (ttx_app names) monitor_texts (Ok (monitored None false None false))
+    × Asks (ttx_app names) (monitor_texts ++ codes "--start=0" ∷ []) (Ok (monitored (Some 0) false None false))
+    × Asks (ttx_app names) (monitor_texts ++ codes "--all" ∷ codes "--every=1000000" ∷ []) (Ok (monitored None true (Some 1000000) false))
+    × Asks (ttx_app names) (monitor_texts ++ codes "--rows" ∷ []) (Ok (monitored None false None true))
+    × Asks (ttx_app names) (monitor_texts ++ codes "--every=50" ∷ codes "--rows" ∷ []) (Err (apart (conflicts.apart argument.Rows argument.Every)))
     × Asks (ttx_app names) (codes "monitor" ∷ codes "-" ∷ codes "s" ∷ codes "k" ∷ codes "-" ∷ []) (Err named_twice)
     × (fault_of (ttx_app names) (monitor_texts ++ codes "--start=65536" ∷ []) ≡ ValueValidation ∷ [])
 
@@ -153,6 +157,26 @@ ExplainWords =
     (names : Names) → Asks (ttx_app names) (codes "explain" ∷ codes "late" ∷ []) (Ok (explain_order (codes "late")))
     × Asks (ttx_app names) (codes "pages" ∷ codes "c" ∷ codes "--json" ∷ []) (Ok (pages_order (codes "c") true))
     × Asks (ttx_app names) (codes "pages" ∷ codes "c" ∷ []) (Ok (pages_order (codes "c") false))
+
+abbrev air_texts : List Text
+air_texts = codes "air" ∷ codes "s" ∷ codes "--within" ∷ codes "20" ∷ []
+
+abbrev aired : Option ℕ → Bool → Option Text → OrderView
+aired fields late log =
+    air_order (codes "s") 1000 1 (record { start = start_now; clock = clock_ahead (pos 0) }) fields late false log false
+
+abbrev pub AirWords : Type 0
+AirWords =
+    (names : Names) → Asks (ttx_app names) air_texts (Ok (aired None true None))
+    × Asks (ttx_app names) (air_texts ++ codes "--at-once" ∷ codes "--fields=0" ∷ codes "--log=l" ∷ []) (Ok (aired (Some 0) false (Some (codes "l"))))
+    × Asks (ttx_app names) (air_texts ++ codes "--late" ∷ codes "--at=now" ∷ []) (Ok (aired None true None))
+    × Asks (ttx_app names) (air_texts ++ codes "--late" ∷ codes "--at-once" ∷ []) (Err (apart (conflicts.apart argument.AirLate argument.AtOnce)))
+    × Asks (ttx_app names) (air_texts ++ codes "--at=61000/235960" ∷ []) (Err no_time)
+    × (fault_of (ttx_app names) (codes "air" ∷ codes "s" ∷ []) ≡ MissingRequiredArgument ∷ [])
+
+abbrev pub ComposeWords : Type 0
+ComposeWords =
+    (names : Names) → Asks (ttx_app names) (codes "compose" ∷ codes "-" ∷ codes "-" ∷ []) (Ok (compose_order (codes "-") (codes "-")))
 
 abbrev pub TwiceWords : Type 0
 TwiceWords =

@@ -40,7 +40,7 @@ use Rattle.ttx_arguments.specs.declared.conflicts.Conflict.{Conflict}
 use Rattle.ttx_arguments.specs.declared.orders.Look.{Look}
 use Rattle.ttx_arguments.specs.declared.orders.Order.{Order}
 use Rattle.ttx_arguments.specs.declared.orders.Order.TheVariants.{Inspect, Plan, Find, Certify, Refute, Replay, Receive, Show, Preview, Splice, Wait}
-use Rattle.ttx_arguments.specs.declared.orders.Order.TheVariants.{Send, Monitor, Pages, Book, Extract, Check, Explain, Version}
+use Rattle.ttx_arguments.specs.declared.orders.Order.TheVariants.{Send, Air, Monitor, Report, Pages, Book, Extract, Check, Compose, Decompose, Explain, Version}
 use Rattle.ttx_arguments.specs.declared.orders.ReceiverKind.{ReceiverKind}
 use Rattle.ttx_arguments.specs.declared.orders.ReceiverKind.TheVariants.{Eager, Careful, Cleared}
 use Rattle.ttx_arguments.specs.declared.orders.Sending.{Sending}
@@ -71,11 +71,15 @@ pub data OrderView : Type 0 where
   splice_order : (old new old_service new_service old_certificate new_certificate : Text) → (sent : Option ℕ) → (late : Bool) → OrderView
   wait_order : (cycle service : Text) → (repeat : ℕ) → (class : Class) → (items numbers : Bool) → OrderView
   send_order : (cycle : Text) → (timing : TimingView) → (sending : Sending) → (force : Bool) → OrderView
-  monitor_order : (cycle service certificate feed : Text) → (start : Option ℕ) → (all : Bool) → (every : Option ℕ) → OrderView
+  monitor_order : (cycle service certificate feed : Text) → (start : Option ℕ) → (all : Bool) → (every : Option ℕ) → (rows : Bool) → OrderView
+  air_order : (service : Text) → (within repeat : ℕ) → (timing : TimingView) → (fields : Option ℕ) → (late spread : Bool) → (log : Option Text) → (force : Bool) → OrderView
+  report_order : (cycle service certificate out : Text) → (date : Option Text) → OrderView
   pages_order : (cycle : Text) → (json : Bool) → OrderView
   book_order : (cycle out : Text) → OrderView
   extract_order : (cycle out : Text) → (lines : ℕ) → OrderView
   check_order : (service : Text) → OrderView
+  compose_order : (author out : Text) → OrderView
+  decompose_order : (service out : Text) → OrderView
   explain_order : (reason : Text) → OrderView
   version_order : OrderView
 
@@ -93,11 +97,16 @@ order_view (Splice o) =
     splice_order o.old.now o.new.now o.old_service.now o.new_service.now o.old_certificate.now o.new_certificate.now o.sent o.late
 order_view (Wait o) = wait_order o.cycle.now o.service.now o.repeat o.class o.items o.numbers
 order_view (Send o) = send_order o.cycle.now (timing_view o.timing) o.sending o.force
-order_view (Monitor o) = monitor_order o.cycle.now o.service.now o.certificate.now o.feed.now o.start o.all o.every
+order_view (Air o) =
+    air_order o.service.now o.within o.repeat (timing_view o.timing) o.fields o.late o.spread (option_map (λ s. s.now) o.log) o.force
+order_view (Monitor o) = monitor_order o.cycle.now o.service.now o.certificate.now o.feed.now o.start o.all o.every o.rows
+order_view (Report o) = report_order o.cycle.now o.service.now o.certificate.now o.out.now (option_map (λ s. s.now) o.date)
 order_view (Pages cycle json) = pages_order cycle.now json
 order_view (Book cycle out) = book_order cycle.now out.now
 order_view (Extract cycle out lines) = extract_order cycle.now out.now lines
 order_view (Check service) = check_order service.now
+order_view (Compose author out) = compose_order author.now out.now
+order_view (Decompose service out) = decompose_order service.now out.now
 order_view (Explain reason) = explain_order reason.now
 order_view Version = version_order
 
@@ -266,7 +275,12 @@ wait_at rows =
 abbrev pub monitor_at : List Row → OrderView
 monitor_at rows =
     monitor_order (text_at argument.Cycle rows) (text_at argument.Service rows) (text_at argument.Certificate rows) (text_at argument.Feed rows)
-    (number_given argument.FeedStart rows) (is_set argument.MonitorAll rows) (number_given argument.Every rows)
+    (number_given argument.FeedStart rows) (is_set argument.MonitorAll rows) (number_given argument.Every rows) (is_set argument.Rows rows)
+
+abbrev pub report_at : List Row → OrderView
+report_at rows =
+    report_order (text_at argument.Cycle rows) (text_at argument.Service rows) (text_at argument.Certificate rows) (text_at argument.Reported rows)
+    (given_at argument.Date rows)
 
 abbrev pub pages_at : List Row → OrderView
 pages_at rows = pages_order (text_at argument.Cycle rows) (is_set argument.Json rows)
@@ -279,6 +293,12 @@ extract_at rows = extract_order (text_at argument.Cycle rows) (text_at argument.
 
 abbrev pub check_at : List Row → OrderView
 check_at rows = check_order (text_at argument.Service rows)
+
+abbrev pub compose_at : List Row → OrderView
+compose_at rows = compose_order (text_at argument.Author rows) (text_at argument.Composed rows)
+
+abbrev pub decompose_at : List Row → OrderView
+decompose_at rows = decompose_order (text_at argument.Service rows) (text_at argument.Decomposed rows)
 
 abbrev pub explain_at : List Row → OrderView
 explain_at rows = explain_order (text_at argument.Reason rows)
@@ -311,6 +331,25 @@ send_by (Some start) (Some clock) rows =
 
 abbrev pub send_at : List Row → Result OrderView Unfit
 send_at rows = send_by (start_named (text_at argument.At rows)) (clock_at rows) rows
+
+-- late unless it is at once
+abbrev pub air_with : ℕ → TimingView → List Row → OrderView
+air_with within timing rows =
+    air_order (text_at argument.Watched rows) within (repeat_at rows) timing (number_given argument.AirFields rows)
+    (not (is_set argument.AtOnce rows)) (is_set argument.Spread rows) (given_at argument.AirLog rows) (is_set argument.Force rows)
+
+abbrev pub air_by : Option ℕ → Option StartView → Option ClockView → List Row → Result OrderView Unfit
+air_by None start clock rows = Err no_seconds
+air_by (Some within) None clock rows = Err no_time
+air_by (Some within) (Some start) None rows = Err two_clocks
+air_by (Some within) (Some start) (Some clock) rows = Ok (air_with within (record { start = start; clock = clock }) rows)
+
+-- when the machine's clock is asked, unless it is another time
+abbrev pub air_start_at : List Row → Option StartView
+air_start_at rows = start_named (unwrap_or (given_at argument.AirAt rows) (codes "now"))
+
+abbrev pub air_at : List Row → Result OrderView Unfit
+air_at rows = air_by (fields_of (text_at argument.AirWithin rows)) (air_start_at rows) (clock_at rows) rows
 
 abbrev pub is_standard : Argument → List Row → Bool
 is_standard argument rows = bytes_eq (text_at argument rows) (codes "-")
@@ -345,6 +384,10 @@ order_by command.Book rows = Ok (book_at rows)
 order_by command.Extract rows = Ok (extract_at rows)
 order_by command.Check rows = Ok (check_at rows)
 order_by command.Version rows = Ok version_order
+order_by command.Air rows = air_at rows
+order_by command.Compose rows = Ok (compose_at rows)
+order_by command.Decompose rows = Ok (decompose_at rows)
+order_by command.Report rows = Ok (report_at rows)
 order_by command.Explain rows = Ok (explain_at rows)
 
 -- unless two of its arguments do not go together

@@ -67,11 +67,24 @@ pub enum Argument {
     Reveal,
     Items,
     Force,
+    Author,
+    Composed,
+    Decomposed,
+    Reported,
     Reason,
+    Watched,
+    AirWithin,
+    AirAt,
+    AirFields,
+    AirLog,
     Every,
+    Date,
+    AirLate,
+    AtOnce,
     Json,
     MonitorAll,
     CertifyAll,
+    Rows,
 }
 
 impl Argument {
@@ -82,12 +95,18 @@ impl Argument {
         match self {
             Argument::File => "file",
             Argument::Cycle => "cycle",
-            Argument::Service => "service",
+            Argument::Service | Argument::Watched => "service",
             Argument::Certificate => "certificate",
             Argument::Counter => "counter",
             Argument::Feed => "feed",
             Argument::Page => "page",
-            Argument::Planned | Argument::Found | Argument::Book | Argument::Extracted => "out",
+            Argument::Planned
+            | Argument::Found
+            | Argument::Book
+            | Argument::Extracted
+            | Argument::Composed
+            | Argument::Decomposed
+            | Argument::Reported => "out",
             Argument::Old => "old",
             Argument::New => "new",
             Argument::OldService => "old_service",
@@ -101,35 +120,41 @@ impl Argument {
             Argument::Lines | Argument::NeededLines => "lines",
             Argument::Start | Argument::FeedStart => "start",
             Argument::Slots => "slots",
-            Argument::Fields => "fields",
+            Argument::Fields | Argument::AirFields => "fields",
             Argument::Phase => "phase",
             Argument::Offset => "offset",
             Argument::Zone => "zone",
             Argument::Sent => "sent",
             Argument::Deadline => "deadline",
-            Argument::Within => "within",
+            Argument::Within | Argument::AirWithin => "within",
             Argument::Save => "save",
-            Argument::At => "at",
-            Argument::PlannedLate | Argument::Late | Argument::SplicedLate => "late",
+            Argument::At | Argument::AirAt => "at",
+            Argument::PlannedLate | Argument::Late | Argument::SplicedLate | Argument::AirLate =>
+                "late",
             Argument::Spread => "spread",
             Argument::Numbers | Argument::WaitNumbers => "numbers",
             Argument::Twice => "twice",
             Argument::Reveal => "reveal",
             Argument::Items => "items",
             Argument::Force => "force",
+            Argument::Author => "author",
             Argument::Reason => "reason",
+            Argument::AirLog => "log",
             Argument::Every => "every",
+            Argument::Date => "date",
+            Argument::AtOnce => "at-once",
             Argument::Json => "json",
             Argument::MonitorAll | Argument::CertifyAll => "all",
+            Argument::Rows => "rows",
         }
     }
 
     /// What help calls its value.
     pub(crate) fn value_name<'a>(self) -> &'a str {
         match self {
-            Argument::File => "FILE",
+            Argument::File | Argument::AirLog => "FILE",
             Argument::Cycle => "CYCLE",
-            Argument::Service => "SERVICE",
+            Argument::Service | Argument::Watched => "SERVICE",
             Argument::Certificate => "CERT",
             Argument::Counter => "COUNTER",
             Argument::Feed => "FEED",
@@ -138,6 +163,9 @@ impl Argument {
             | Argument::Found
             | Argument::Book
             | Argument::Extracted
+            | Argument::Composed
+            | Argument::Decomposed
+            | Argument::Reported
             | Argument::Save => "OUT",
             Argument::Old => "OLD",
             Argument::New => "NEW",
@@ -151,15 +179,17 @@ impl Argument {
             Argument::Repeat => "K",
             Argument::Lines | Argument::NeededLines => "L",
             Argument::Start | Argument::FeedStart => "S",
-            Argument::Slots | Argument::Fields => "N",
+            Argument::Slots | Argument::Fields | Argument::AirFields => "N",
             Argument::Phase => "F",
             Argument::Offset => "HALVES",
             Argument::Zone => "ZONE",
             Argument::Sent => "PERIODS",
             Argument::Deadline | Argument::Every => "FIELDS",
-            Argument::Within => "SECONDS",
-            Argument::At => "TIME",
+            Argument::Within | Argument::AirWithin => "SECONDS",
+            Argument::At | Argument::AirAt => "TIME",
+            Argument::Author => "AUTHOR",
             Argument::Reason => "REASON",
+            Argument::Date => "DATE",
             Argument::PlannedLate
             | Argument::Spread
             | Argument::Late
@@ -170,9 +200,12 @@ impl Argument {
             | Argument::Reveal
             | Argument::Items
             | Argument::Force
+            | Argument::AirLate
+            | Argument::AtOnce
             | Argument::Json
             | Argument::MonitorAll
-            | Argument::CertifyAll => "",
+            | Argument::CertifyAll
+            | Argument::Rows => "",
         }
     }
 
@@ -223,11 +256,24 @@ impl Argument {
             Argument::Reveal => help::REVEAL_OPTION,
             Argument::Items => help::ITEMS_OPTION,
             Argument::Force => help::FORCE_OPTION,
+            Argument::Author => help::AUTHOR_OPERAND,
+            Argument::Composed => help::COMPOSED_OPERAND,
+            Argument::Decomposed => help::DECOMPOSED_OPERAND,
+            Argument::Reported => help::REPORTED_OPERAND,
             Argument::Reason => help::REASON_OPERAND,
+            Argument::Watched => help::WATCHED_OPERAND,
+            Argument::AirWithin => help::AIR_WITHIN_OPTION,
+            Argument::AirAt => help::AIR_AT_OPTION,
+            Argument::AirFields => help::AIR_FIELDS_OPTION,
+            Argument::AirLog => help::AIR_LOG_OPTION,
             Argument::Every => help::EVERY_OPTION,
+            Argument::Date => help::DATE_OPTION,
+            Argument::AirLate => help::AIR_LATE_OPTION,
+            Argument::AtOnce => help::AT_ONCE_OPTION,
             Argument::Json => help::JSON_OPTION,
             Argument::MonitorAll => help::MONITOR_ALL_OPTION,
             Argument::CertifyAll => help::CERTIFY_ALL_OPTION,
+            Argument::Rows => help::ROWS_OPTION,
         }
     }
 
@@ -243,12 +289,19 @@ impl Argument {
             Argument::Lines | Argument::NeededLines => Takes::Number(1, 32),
             Argument::Start | Argument::FeedStart => Takes::Number(0, 65_535),
             Argument::Slots => Takes::Number(0, 1_000_000),
-            Argument::Fields | Argument::Phase | Argument::Sent => {
+            Argument::Fields | Argument::AirFields | Argument::Phase | Argument::Sent => {
                 Takes::Number(0, 4_294_967_295)
             }
             Argument::Offset => Takes::HalfHours,
             Argument::Deadline | Argument::Every => Takes::Number(1, 1_000_000),
-            Argument::Within | Argument::Save | Argument::At | Argument::Zone => Takes::Text,
+            Argument::Within
+            | Argument::AirWithin
+            | Argument::Save
+            | Argument::At
+            | Argument::AirAt
+            | Argument::AirLog
+            | Argument::Date
+            | Argument::Zone => Takes::Text,
             Argument::PlannedLate
             | Argument::Spread
             | Argument::Late
@@ -259,9 +312,12 @@ impl Argument {
             | Argument::Reveal
             | Argument::Items
             | Argument::Force
+            | Argument::AirLate
+            | Argument::AtOnce
             | Argument::Json
             | Argument::MonitorAll
-            | Argument::CertifyAll => Takes::Nothing,
+            | Argument::CertifyAll
+            | Argument::Rows => Takes::Nothing,
             _ => Takes::Operand,
         }
     }
@@ -271,7 +327,7 @@ impl Argument {
         ensures { result ≡ rule.is_needed self }
     {
         match self {
-            Argument::At | Argument::Fields | Argument::NeededLines => true,
+            Argument::At | Argument::Fields | Argument::NeededLines | Argument::AirWithin => true,
             _ => false,
         }
     }
@@ -287,6 +343,7 @@ impl Argument {
             | Argument::Certificate
             | Argument::Counter
             | Argument::Feed
+            | Argument::Author
             | Argument::Old
             | Argument::New
             | Argument::OldService

@@ -27,11 +27,15 @@ pub enum CommandName {
     Extract,
     Check,
     Version,
+    Air,
+    Compose,
+    Decompose,
+    Report,
     Explain,
 }
 
 /// The commands, as help lists them.
-pub static COMMANDS: [CommandName; 19] = [
+pub static COMMANDS: [CommandName; 23] = [
     CommandName::Inspect,
     CommandName::Plan,
     CommandName::Find,
@@ -50,6 +54,10 @@ pub static COMMANDS: [CommandName; 19] = [
     CommandName::Extract,
     CommandName::Check,
     CommandName::Version,
+    CommandName::Air,
+    CommandName::Compose,
+    CommandName::Decompose,
+    CommandName::Report,
     CommandName::Explain,
 ];
 
@@ -77,6 +85,10 @@ impl CommandName {
             CommandName::Extract => "extract",
             CommandName::Check => "check",
             CommandName::Version => "version",
+            CommandName::Air => "air",
+            CommandName::Compose => "compose",
+            CommandName::Decompose => "decompose",
+            CommandName::Report => "report",
             CommandName::Explain => "explain",
         }
     }
@@ -111,6 +123,10 @@ impl CommandName {
                 "Reports what is wrong, or probably wrong, in the text of a service",
             CommandName::Version =>
                 "Writes the version, and the proof kit and logic that proved it",
+            CommandName::Air => "Keeps a service on air, with its changes, to standard output",
+            CommandName::Compose => "Makes a service definition of an author's text",
+            CommandName::Decompose => "Makes an author's text of a service definition",
+            CommandName::Report => "Writes a verdict, and the wait for each page, to OUT, as HTML",
             CommandName::Explain => "Explains a reason of a verdict, by its number or its name",
         }
     }
@@ -136,6 +152,10 @@ impl CommandName {
             CommandName::Extract => help::EXTRACT_MORE,
             CommandName::Check => help::CHECK_MORE,
             CommandName::Version => help::VERSION_MORE,
+            CommandName::Air => help::AIR_MORE,
+            CommandName::Compose => help::COMPOSE_MORE,
+            CommandName::Decompose => help::DECOMPOSE_MORE,
+            CommandName::Report => help::REPORT_MORE,
             CommandName::Explain => help::EXPLAIN_MORE,
         }
     }
@@ -183,13 +203,21 @@ impl CommandName {
             ],
             CommandName::Monitor => &[
                 Argument::Cycle, Argument::Service, Argument::Certificate, Argument::Feed,
-                Argument::FeedStart, Argument::MonitorAll, Argument::Every,
+                Argument::FeedStart, Argument::MonitorAll, Argument::Every, Argument::Rows,
             ],
             CommandName::Pages => &[Argument::Cycle, Argument::Json],
             CommandName::Book => &[Argument::Cycle, Argument::Book],
             CommandName::Extract => &[Argument::Cycle, Argument::Extracted, Argument::NeededLines],
             CommandName::Check => &[Argument::Service],
             CommandName::Version => &[],
+            CommandName::Air => &[
+                Argument::Watched, Argument::AirWithin, Argument::Repeat, Argument::AirAt, Argument::Zone,
+                Argument::Offset, Argument::AirFields, Argument::AirLate, Argument::AtOnce,
+                Argument::Spread, Argument::AirLog, Argument::Force,
+            ],
+            CommandName::Compose => &[Argument::Author, Argument::Composed],
+            CommandName::Decompose => &[Argument::Service, Argument::Decomposed],
+            CommandName::Report => &[Argument::Cycle, Argument::Service, Argument::Certificate, Argument::Reported, Argument::Date],
             CommandName::Explain => &[Argument::Reason],
         }
     }

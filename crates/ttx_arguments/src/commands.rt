@@ -6,14 +6,14 @@ ghost use Rattle.ttx_arguments.specs.Arguments.{is_input};
 ghost use Rattle.ttx_arguments.specs.Orders as rule;
 ghost use Rattle.ttx_arguments.specs.Orders.{order_view, inspect_at, plan_at, find_at, certify_at, refute_at, replay_at, receive_at, show_at};
 ghost use Rattle.ttx_arguments.specs.Orders.{preview_at, splice_asked, wait_at, send_at, monitor_at, pages_at, book_at, extract_at, check_at, IsOrderOf};
-ghost use Rattle.ttx_arguments.specs.Orders.{explain_at};
+ghost use Rattle.ttx_arguments.specs.Orders.{compose_at, decompose_at, report_at, explain_at};
 ghost use Rattle.ttx_arguments.specs.Orders.{is_standard, is_cycle_twice};
 
 use crate::arguments::Argument;
 use crate::command_names::CommandName;
 use crate::orders::{
-    CertifyOrder, FindOrder, MonitorOrder, Order, PlanOrder, RefuteOrder, ReplayOrder, SendOrder,
-    SpliceOrder, Timing, WaitOrder, WordsFault,
+    CertifyOrder, FindOrder, MonitorOrder, Order, PlanOrder, RefuteOrder, ReplayOrder, ReportOrder,
+    SendOrder, SpliceOrder, Timing, WaitOrder, WordsFault,
 };
 use crate::page_names::selection;
 use crate::ranges::Fields;
@@ -257,6 +257,19 @@ pub(crate) fn monitor_of<'a>(values: &ArgMatches<'a>) -> Order<'a>
         start: given_number(values, Argument::FeedStart),
         all: is_set(values, Argument::MonitorAll),
         every: every_of(values),
+        rows: is_set(values, Argument::Rows),
+    })
+}
+
+pub(crate) fn report_of<'a>(values: &ArgMatches<'a>) -> Order<'a>
+    ensures { order_view result ≡ report_at (rows_of (found_of values.now)) }
+{
+    Order::Report(ReportOrder {
+        cycle: text_of(values, Argument::Cycle),
+        service: text_of(values, Argument::Service),
+        certificate: text_of(values, Argument::Certificate),
+        out: text_of(values, Argument::Reported),
+        date: given(values, Argument::Date),
     })
 }
 
@@ -293,6 +306,24 @@ pub(crate) fn check_of<'a>(values: &ArgMatches<'a>) -> Order<'a>
 {
     Order::Check {
         service: text_of(values, Argument::Service),
+    }
+}
+
+pub(crate) fn compose_of<'a>(values: &ArgMatches<'a>) -> Order<'a>
+    ensures { order_view result ≡ compose_at (rows_of (found_of values.now)) }
+{
+    Order::Compose {
+        author: text_of(values, Argument::Author),
+        out: text_of(values, Argument::Composed),
+    }
+}
+
+pub(crate) fn decompose_of<'a>(values: &ArgMatches<'a>) -> Order<'a>
+    ensures { order_view result ≡ decompose_at (rows_of (found_of values.now)) }
+{
+    Order::Decompose {
+        service: text_of(values, Argument::Service),
+        out: text_of(values, Argument::Decomposed),
     }
 }
 

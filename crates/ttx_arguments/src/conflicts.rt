@@ -30,6 +30,11 @@ fn conflicts<'a>(command: CommandName) -> &'a [Conflict]
             Conflict { one: Argument::CertifyAll, other: Argument::Twice },
             Conflict { one: Argument::CertifyAll, other: Argument::Within },
         ],
+        CommandName::Monitor => &[
+            Conflict { one: Argument::Rows, other: Argument::MonitorAll },
+            Conflict { one: Argument::Rows, other: Argument::Every },
+        ],
+        CommandName::Air => &[Conflict { one: Argument::AirLate, other: Argument::AtOnce }],
         _ => &[],
     }
 }

@@ -7,34 +7,38 @@ pub(crate) const TTX: &str =
 Usage: ttx <COMMAND>
 
 Write a service:
-  check    Reports what is wrong, or probably wrong, in the text of a service
-  preview  Writes a page of a service as it is displayed when received whole
+  compose    Makes a service definition of an author's text
+  decompose  Makes an author's text of a service definition
+  check      Reports what is wrong, or probably wrong, in the text of a service
+  preview    Writes a page of a service as it is displayed when received whole
 
 Plan and certify:
-  plan     Lays out a service as a cycle of slots, and writes it to OUT
-  find     Finds the certificate with the least deadline, and writes it to OUT
-  certify  Judges a cycle and its service by a certificate, yes or no
-  wait     Prints the longest wait for each page, and the item that causes it
-  refute   Looks for a receiver that fails to show a page (a counter-run)
-  replay   Replays a counter-run of refute, and shows where the page is wrong
-  explain  Explains a reason of a verdict, by its number or its name
+  plan       Lays out a service as a cycle of slots, and writes it to OUT
+  find       Finds the certificate with the least deadline, and writes it to OUT
+  certify    Judges a cycle and its service by a certificate, yes or no
+  wait       Prints the longest wait for each page, and the item that causes it
+  refute     Looks for a receiver that fails to show a page (a counter-run)
+  replay     Replays a counter-run of refute, and shows where the page is wrong
+  explain    Explains a reason of a verdict, by its number or its name
+  report     Writes a verdict, and the wait for each page, to OUT, as HTML
 
 Go on air:
-  send     Sends a cycle again and again, with the time, to standard output
-  splice   Judges the change from an old cycle to a new one, yes or no
-  monitor  Judges what a receiver got of a cycle, yes or no
+  air        Keeps a service on air, with its changes, to standard output
+  send       Sends a cycle again and again, with the time, to standard output
+  splice     Judges the change from an old cycle to a new one, yes or no
+  monitor    Judges what a receiver got of a cycle, yes or no
 
 Look into a packet file:
-  inspect  Writes one line for each slot of a packet file to standard output
-  pages    Lists the pages of a cycle, and what is sent under their headers
-  show     Receives a page of a cycle, and writes it as it is displayed
-  receive  Receives a page of a cycle, and writes the cells that are displayed
-  book     Writes all pages of a cycle to OUT, as one HTML file
-  extract  Writes the service definition that a cycle sends to OUT
+  inspect    Writes one line for each slot of a packet file to standard output
+  pages      Lists the pages of a cycle, and what is sent under their headers
+  show       Receives a page of a cycle, and writes it as it is displayed
+  receive    Receives a page of a cycle, and writes the cells that are displayed
+  book       Writes all pages of a cycle to OUT, as one HTML file
+  extract    Writes the service definition that a cycle sends to OUT
 
 About ttx:
-  version  Writes the version, and the proof kit and logic that proved it
-  help     Writes this help, or that of a command: ttx help plan
+  version    Writes the version, and the proof kit and logic that proved it
+  help       Writes this help, or that of a command: ttx help plan
 
 Options:
   -h, --help     Print help
@@ -50,7 +54,8 @@ Without arguments, ttx runs: ttx inspect -
 An input named - is standard input; only one input may be. ttx opens the inputs
 in the order of the arguments, then creates or empties OUT. After a later
 refusal OUT is empty; if the arguments are refused or an input cannot be opened,
-OUT is untouched. OUT is always the name of a file.
+OUT is untouched. OUT is always the name of a file, except that - is standard
+output for compose and decompose.
 
 Arguments that do not go together are refused, as in
 refused: --all with --twice
@@ -492,12 +497,15 @@ Without --start, S is the slot with which the fewest slots of the first period
 of FEED differ from CYCLE, the first of several.
 
 With --all, FEED is judged to its end, and each breach of the rule has a line.
-With --every, there is a line of state after every FIELDS fields, for logs.
+With --every, there is a line of state after every FIELDS fields, for logs. With
+--rows, the rule is that by rows: of K successive transmissions of a row at
+least one is received whole, and others may be lost.
 
 Statuses:
   0  yes
   1  no
   2  error: .. (the arguments), refused: twice,
+     refused: --rows with .. (--all or --every),
      refused: cycle NUMBER NAME [REST],
      refused: service NUMBER NAME [KEY] page N, refused: service too-long,
      refused: certificate NUMBER NAME [line N], refused: certificate too-long
@@ -703,6 +711,113 @@ pub(crate) const ZONE_OPTION: &str = "Clock in page headers, by its time zone, s
 Europe/Berlin; not with --offset";
 
 pub(crate) const FORCE_OPTION: &str = "Write packets also to a terminal";
+
+pub(crate) const AIR_MORE: &str =
+    "Plans SERVICE and certifies its cycle, then writes the cycle again and again, in
+slots of 42 bytes, with the time, as send does. All pages are seen within
+SECONDS; if the least deadline is longer, nothing is sent, and the pages that
+are too slow are named. The reader of standard output sets the pace.
+
+At the end of a period, when a change may be made, and at most once a second,
+ttx looks whether SERVICE has another text. A new text is read, planned and
+certified, and the change is judged as by splice. If the answer is yes, the new
+cycle follows at the end of a period. Otherwise the pages on air stay, for
+whatever reason, and the same text is not tried again.
+
+The log is a line for each event, with its field, on standard error and in FILE.
+
+TIME, --zone and --offset are as those of send. Without --at it is now.
+
+Statuses:
+  0  N fields are sent
+  1  pages are too slow, or have no deadline
+  2  error: .. (the arguments), refused: seconds, refused: time,
+     refused: clocks (--zone and --offset), refused: zone,
+     refused: --late with --at-once,
+     refused: terminal (packets would go to a terminal, without --force),
+     refused: service NUMBER NAME [KEY] page N, refused: service too-long,
+     refused: plan 1 no-pages, refused: plan 2 too-long
+  3  fault: file, fault: read, fault: write (also if the reader of a pipe has
+     gone), fault: memory";
+
+pub(crate) const WATCHED_OPERAND: &str =
+    "Service definition: a file with a TOML text of at most 4194304
+bytes, in which changes are looked for";
+
+pub(crate) const AIR_WITHIN_OPTION: &str =
+    "Seconds within which pages are seen, also after a change,
+0.02 to 20000, with at most two decimals, rounded down
+to fields of 0.02 s";
+
+pub(crate) const AIR_AT_OPTION: &str = "When the first field is sent, see ttx send --help
+[default: now]";
+
+pub(crate) const AIR_FIELDS_OPTION: &str = "How many fields to send, 0 to 4294967295; without it,
+there is no end";
+
+pub(crate) const AIR_LATE_OPTION: &str = "Plan and judge also for receivers that may show a page
+late; so it is without --at-once";
+
+pub(crate) const AT_ONCE_OPTION: &str = "Plan and judge only for receivers that show a page at
+once";
+
+pub(crate) const AIR_LOG_OPTION: &str = "File to write the log to, too; created or emptied";
+
+pub(crate) const COMPOSE_MORE: &str =
+    "Reads AUTHOR to its end. Writes the service definition that it stands for to
+OUT. An author's text is a service definition in which each character stands for
+what the viewer sees, and names in braces are control codes, as in {red}. If the
+text has mistakes, each has a line with its place, and OUT stays empty.
+
+Statuses:
+  0  composed
+  1  the text has mistakes
+  2  error: .. (the arguments), refused: same (OUT is AUTHOR),
+     refused: service too-long
+  3  fault: file, fault: read, fault: write, fault: memory";
+
+pub(crate) const AUTHOR_OPERAND: &str = "Author's text: a TOML text of at most 4194304 bytes;
+- is standard input";
+
+pub(crate) const COMPOSED_OPERAND: &str =
+    "Service definition to write, a TOML text; created or emptied;
+- is standard output";
+
+pub(crate) const DECOMPOSE_MORE: &str =
+    "Reads SERVICE to its end. Writes the author's text that stands for it to OUT:
+compose makes the same service of it again.
+
+Statuses:
+  0  done
+  2  error: .. (the arguments), refused: same (OUT is SERVICE),
+     refused: service NUMBER NAME [KEY] page N, refused: service too-long
+  3  fault: file, fault: read, fault: write, fault: memory";
+
+pub(crate) const DECOMPOSED_OPERAND: &str =
+    "Author's text to write, a TOML text; created or emptied;
+- is standard output";
+
+pub(crate) const REPORT_MORE: &str =
+    "Reads CYCLE, SERVICE and CERT, in this order, to their ends. Writes an HTML page
+to OUT, to be printed and filed: the verdict of certify, in words and seconds,
+what it promises and to which receivers, for each page how long its viewers wait
+and what is promised, pages that SERVICE lacks, and the SHA-256 of each input.
+Without --date it has no date; nothing in it depends on the machine's clock.
+
+Statuses:
+  0  the verdict is yes
+  1  the verdict is no
+  2  error: .. (the arguments), refused: twice, refused: date,
+     refused: same (OUT is an input), refused: cycle NUMBER NAME [REST],
+     refused: service NUMBER NAME [KEY] page N, refused: service too-long,
+     refused: certificate NUMBER NAME [line N], refused: certificate too-long
+  3  fault: file, fault: read, fault: write, fault: memory";
+
+pub(crate) const REPORTED_OPERAND: &str = "HTML file to write; created or emptied";
+
+pub(crate) const DATE_OPTION: &str = "Date of the report, as in 2026-11-25";
+
+pub(crate) const ROWS_OPTION: &str = "Judge by whole rows, some of which may be lost";
 
 pub(crate) const EXPLAIN_MORE: &str =
     "Writes what a reason of certify or splice means, and what to do about it.

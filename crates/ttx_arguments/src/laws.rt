@@ -1,6 +1,6 @@
 //! What some words ask for, computed from the definitions: examples that hold the grammar and the orders to what a user types.
 
-ghost use Rattle.ttx_arguments.specs.Examples.{VersionWords, CertifyWords, SendWords, PlanWords, SecondsTexts, FindWords, RepeatWords, SpliceWords, WaitWords, MonitorWords, ExplainWords, TwiceWords};
+ghost use Rattle.ttx_arguments.specs.Examples.{VersionWords, CertifyWords, SendWords, PlanWords, SecondsTexts, FindWords, RepeatWords, SpliceWords, WaitWords, MonitorWords, ExplainWords, AirWords, ComposeWords, TwiceWords};
 
 /// `--version` and `-V` ask for the version, also before other words.
 pub fn version_words()
@@ -49,7 +49,8 @@ pub fn wait_words()
     ensures { WaitWords }
 {}
 
-/// `monitor` takes the slot with which the feed begins, and no slot is not 0; the feed is an input. `--all` and `--every` go together.
+/// `monitor` takes the slot with which the feed begins, and no slot is not 0; the feed is an input. `--all` and `--every` go together, and with neither
+/// goes `--rows`.
 pub fn monitor_words()
     ensures { MonitorWords }
 {}
@@ -57,6 +58,16 @@ pub fn monitor_words()
 /// `explain` takes a reason, and `pages` an option without a value.
 pub fn explain_words()
     ensures { ExplainWords }
+{}
+
+/// `air` begins now, has no end and is late unless the words say otherwise; it takes the seconds within which pages are seen.
+pub fn air_words()
+    ensures { AirWords }
+{}
+
+/// `compose` reads standard input and writes standard output.
+pub fn compose_words()
+    ensures { ComposeWords }
 {}
 
 /// Two inputs cannot both be standard input, nor can a cycle that is read twice.

@@ -1,6 +1,7 @@
 //! The words after the name of the program `ttx`: what they ask for, and why they are refused.
 #![tactic(auto)]
 
+mod airings;
 mod arguments;
 mod command_names;
 mod commands;
@@ -19,14 +20,14 @@ mod values;
 
 pub use conflicts::{Conflict, conflict_line};
 pub use laws::{
-    certify_words, explain_words, find_words, monitor_words, plan_words, repeat_words,
-    seconds_texts, send_words, splice_words, twice_words, version_words, wait_words,
+    air_words, certify_words, compose_words, explain_words, find_words, monitor_words, plan_words,
+    repeat_words, seconds_texts, send_words, splice_words, twice_words, version_words, wait_words,
 };
 pub use moments::Moment;
 pub use orders::{
-    CertifyOrder, Clock, FindOrder, Look, MonitorOrder, Order, PlanOrder, ReceiverKind,
-    RefuteOrder, ReplayOrder, SendOrder, Sending, SpliceOrder, Start, Timing, Tuning, WaitOrder,
-    WordsFault,
+    AirOrder, CertifyOrder, Clock, FindOrder, Look, MonitorOrder, Order, PlanOrder, ReceiverKind,
+    RefuteOrder, ReplayOrder, ReportOrder, SendOrder, Sending, SpliceOrder, Start, Timing, Tuning,
+    WaitOrder, WordsFault,
 };
 pub use parsing::words;
 pub use ranges::{Fields, Lines, Offset, Repeat};

@@ -185,6 +185,39 @@ pub struct MonitorOrder<'a> {
     pub all: bool,
     /// After so many fields there is a line of state, again and again; without it, none.
     pub every: Option<Fields>,
+    /// Whether the rule by rows is asked for; not with `all` or `every`.
+    pub rows: bool,
+}
+
+/// What `report` is asked for.
+#[derive(Clone, Copy)]
+pub struct ReportOrder<'a> {
+    pub cycle: &'a str,
+    pub service: &'a str,
+    pub certificate: &'a str,
+    pub out: &'a str,
+    /// The date that stands in the report; without it, none.
+    pub date: Option<&'a str>,
+}
+
+/// What `air` is asked for.
+#[derive(Clone, Copy)]
+pub struct AirOrder<'a> {
+    /// The file that is looked at for changes.
+    pub service: &'a str,
+    /// The deadline of each edition.
+    pub within: Fields,
+    pub repeat: Repeat,
+    pub timing: Timing<'a>,
+    /// How many fields are sent; without it, there is no end.
+    pub fields: Option<u32>,
+    /// For receivers that may show pages late, too.
+    pub late: bool,
+    pub spread: bool,
+    /// The file that the log goes to, too.
+    pub log: Option<&'a str>,
+    /// Whether packets are written to a terminal, too.
+    pub force: bool,
 }
 
 /// A command with its values.
@@ -227,8 +260,12 @@ pub enum Order<'a> {
     Wait(WaitOrder<'a>),
     /// Send a cycle again and again, with the time.
     Send(SendOrder<'a>),
+    /// Keep a service on the air, with its changes.
+    Air(AirOrder<'a>),
     /// Judge what a receiver got of a cycle.
     Monitor(MonitorOrder<'a>),
+    /// Write a report of a verdict.
+    Report(ReportOrder<'a>),
     /// Tell which pages a cycle has.
     Pages {
         cycle: &'a str,
@@ -249,6 +286,16 @@ pub enum Order<'a> {
     /// Tell what is wrong, or likely wrong, in the text of a service.
     Check {
         service: &'a str,
+    },
+    /// Make a service text of an author's text. `-` as `out` is standard output.
+    Compose {
+        author: &'a str,
+        out: &'a str,
+    },
+    /// Make an author's text of a service text. `-` as `out` is standard output.
+    Decompose {
+        service: &'a str,
+        out: &'a str,
     },
     /// Explain a reason, by its number or its name.
     Explain {

@@ -7,11 +7,12 @@ ghost use Rattle.ttx_arguments.specs.Orders.{OrderView, Unfit, order_by, order_a
 ghost use Rattle.ttx_arguments.specs.Orders.{IsRefusalOf, IsSettled};
 ghost use Rattle.ttx_arguments.specs.Arguments.{named_in, command_named};
 
+use crate::airings::air_of;
 use crate::command_names::{COMMANDS, CommandName};
 use crate::commands::{
-    book_of, certify_of, check_of, explain_of, extract_of, find_of, inspect_of, is_twice,
-    monitor_of, pages_of, plan_of, preview_of, receive_of, refute_of, replay_of, send_of, show_of,
-    splice_of, wait_of,
+    book_of, certify_of, check_of, compose_of, decompose_of, explain_of, extract_of, find_of,
+    inspect_of, is_twice, monitor_of, pages_of, plan_of, preview_of, receive_of, refute_of,
+    replay_of, report_of, send_of, show_of, splice_of, wait_of,
 };
 use crate::conflicts::conflict_of;
 use crate::grammar::{Names, option_names, ttx};
@@ -63,6 +64,10 @@ fn order_by<'a>(command: CommandName, values: &ArgMatches<'a>) -> Result<Order<'
         CommandName::Extract => Ok(extract_of(values)),
         CommandName::Check => Ok(check_of(values)),
         CommandName::Version => Ok(Order::Version),
+        CommandName::Air => air_of(values),
+        CommandName::Compose => Ok(compose_of(values)),
+        CommandName::Decompose => Ok(decompose_of(values)),
+        CommandName::Report => Ok(report_of(values)),
         CommandName::Explain => Ok(explain_of(values)),
     }
 }

@@ -3,7 +3,7 @@
 use super::Outcome;
 use super::inputs::{Claim, buffered};
 use crate::devices::{Input, open_input};
-use crate::reports::status_of;
+use crate::reports::{not_built, status_of};
 use std::io;
 use ttx_arguments::MonitorOrder;
 use ttx_cycle::Counted;
@@ -47,6 +47,9 @@ fn report_feed(rt: &HostRuntime, claim: Claim, feed: Input, asked: Asked) -> Res
 
 /// Opens the cycle, the service, the certificate and the feed, and judges the feed, or reports it while it comes.
 pub fn monitor(rt: &HostRuntime, order: &MonitorOrder<'_>) -> Outcome {
+    if order.rows {
+        return Ok(not_built(rt));
+    }
     let claim = Claim::open(rt, order.cycle, order.service, order.certificate)?;
     let feed = open_input(rt, order.feed)?;
     if !order.all && order.every.is_none() {
