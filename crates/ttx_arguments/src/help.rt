@@ -730,13 +730,13 @@ TIME, --zone and --offset are as those of send. Without --at it is now.
 
 Statuses:
   0  N fields are sent
-  1  pages are too slow, or have no deadline
   2  error: .. (the arguments), refused: seconds, refused: time,
      refused: clocks (--zone and --offset), refused: zone,
-     refused: --late with --at-once,
+     refused: --late with --at-once, refused: same (FILE is SERVICE),
      refused: terminal (packets would go to a terminal, without --force),
-     refused: service NUMBER NAME [KEY] page N, refused: service too-long,
-     refused: plan 1 no-pages, refused: plan 2 too-long
+     refused: line .. (as ttx check says it), refused: service too-long,
+     refused: plan 1 no-pages, refused: plan 2 too-long,
+     refused: late PAGE F fields of D, .. (pages that are too slow)
   3  fault: file, fault: read, fault: write (also if the reader of a pipe has
      gone), fault: memory";
 
