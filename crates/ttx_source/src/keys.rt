@@ -96,3 +96,13 @@ impl Key {
         KEYS[self as usize].1
     }
 }
+
+/// What the key of this name takes, in words for an error message.
+pub fn accepted(key: &str) -> &'static str {
+    for entry in KEYS.as_slice() {
+        if entry.0 == key {
+            return entry.1;
+        }
+    }
+    "no value"
+}
