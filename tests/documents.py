@@ -1,11 +1,11 @@
 #!/usr/bin/env python3
 """Runs each example of README.md and docs/ word for word, and compares its output. Checks that the links, files, calls, clauses, laws,
 definitions, mutants, commands and options that the documents name exist; that each name of docs/CONTRACTS.md stands in the crate of its
-row, in a contract that the definitions of the row state; that crates stand where docs/LAYERS.md says; that figures quoted from
-docs/MEASURED.md are there; and the table of waits in docs/SERVICE.md. (recipes.sh runs the blocks of docs/RECIPES.md, and turns.sh the
-loop of docs/SPLICES.md.)
+row, in a contract that the definitions of the row state; that crates and the files of commands stand where docs/LAYERS.md says; that
+figures quoted from docs/MEASURED.md are there; the table of waits in docs/SERVICE.md; that a document leads to each file of examples/
+(recipes.sh runs them); and that README.md and docs/ together have at most 120 kB.
 
-usage: documents.py [PROGRAM] (without PROGRAM only what needs none is checked)
+usage: documents.py [PROGRAM] (without PROGRAM no example is run)
 """
 import functools
 import os
@@ -150,17 +150,17 @@ def index_rows(text):
 def indexed_calls(calls):
     """The calls of a row, each with the names after its colon: clauses, or methods of a type."""
     for group in calls.split(";"):
-        before, _, after = group.partition("`:") if "`:" in group else (group, "", "")
-        names = re.findall(r"`([A-Za-z_0-9:]+)`", before + "`")
-        for name in names:
-            yield name.split("::")[-1], re.findall(r"`([a-z_0-9]+)`", after)
+        before, _, after = group.partition(": ")
+        for name in re.findall(r"[A-Za-z_0-9:]+", before):
+            yield name.split("::")[-1], re.findall(r"[a-z_0-9]+", after)
 
 
 def definitions_of(crate, cell):
-    """The files of definitions that a row names."""
-    for name in re.findall(r"`([A-Za-z_/]+)`", cell):
+    """The files of definitions that a row names, those of another crate as `witness/Coverage`."""
+    for name in re.findall(r"[A-Za-z_/]+", cell):
         owner, _, rest = name.partition("/")
-        yield TOP / (f"crates/{owner}/specs/{rest}.antt" if owner.startswith("ttx_") else f"crates/{crate}/specs/{name}.antt")
+        here = TOP / f"crates/{crate}/specs/{name}.antt"
+        yield TOP / f"crates/ttx_{owner}/specs/{rest}.antt" if rest and not here.exists() else here
 
 
 def unknown_in_index(text):
@@ -248,13 +248,36 @@ def wrong_crates():
     spoken = set(re.findall(r"^- \*\*(ttx\w*)\*\*", (TOP / "docs/LAYERS.md").read_text(), re.M))
     yield from (f"LAYERS.md and crates.txt differ in {name}" for name in sorted(spoken ^ set(stands)))
     unused = set(stands) - used - {"ttx_tests"}
-    for document, start in ("docs/LAYERS.md", "No command uses"), ("README.md", "used by no command yet**"):
-        said = {name for name in listed(document, start) if name.startswith("ttx_")}
-        yield from (f"{document}: whether a command uses {name}" for name in sorted(said ^ unused))
+    said = {name for name in listed("README.md", "used by no command yet**") if name.startswith("ttx_")}
+    yield from (f"README.md: whether a command uses {name}" for name in sorted(said ^ unused))
     indexed = {crate for crate, _, _ in index_rows((TOP / "docs/CONTRACTS.md").read_text())}
     yield from (f"CONTRACTS.md has no row of {name}" for name in sorted(set(stands) - indexed - {"ttx", "ttx_tests"}))
     outside = {name for name in used if not name.startswith("ttx")}
     yield from (f"README.md does not say that {name} is trusted" for name in sorted(outside - listed("README.md", "**Trusted**")))
+
+
+def wrong_command_files():
+    """Commands without a file of their name, and files of ttx_tool's commands that docs/LAYERS.md does not name, or names in vain."""
+    names = set(re.findall(r'CommandName::\w+ => "(\w+)"', (TOP / "crates/ttx_arguments/src/command_names.rt").read_text()))
+    files = {file.stem for file in (TOP / "crates/ttx_tool/src/commands").glob("*.rt")}
+    said = {name.removesuffix(".rt") for name in re.findall(r"\b[a-z_]+\.rt\b", (TOP / "docs/LAYERS.md").read_text())}
+    yield from (f"the command {name} has no file" for name in sorted(names - files))
+    yield from (f"LAYERS.md: the file {name}.rt" for name in sorted(said ^ (files - names)))
+    if len(names) < 19:
+        yield "less than 19 commands"
+
+
+def wrong_size(most=120_000):
+    """Whether README.md and docs/ are too large to be read, pictures aside."""
+    size = sum(file.stat().st_size for file in [TOP / "README.md", *(TOP / "docs").iterdir()] if file.suffix != ".svg")
+    if size > most:
+        yield f"README.md and docs/ have {size:,} bytes, more than {most:,}"
+
+
+def unnamed_examples(documents):
+    """The files of examples/ to which no document leads."""
+    links = {link for document in documents for link in re.findall(r"\]\((?:\.\./)?examples/([\w.-]+)\)", document.read_text())}
+    yield from (f"no document leads to examples/{file.name}" for file in sorted((TOP / "examples").iterdir()) if file.name not in links)
 
 
 def wrong_reasons():
@@ -303,12 +326,9 @@ def wrong_waits(folder, words):
         yield "SERVICE.md: no table of waits"
 
 
-def help_texts(program):
-    """The help text of each command."""
-    def told(words):
-        return subprocess.run([program, *words, "--help"], capture_output=True, text=True, timeout=60).stdout
-    commands = re.findall(r"^  ([a-z]+)  ", told([]), re.M)
-    return {command: told([command]) for command in commands if command != "help"}
+def help_texts():
+    """The help text of each command, as cases.py compares it with what the program prints."""
+    return {file.stem.removeprefix("help-"): file.read_text() for file in (TOP / "tests/cases/expected").glob("help-*.txt")}
 
 
 def failed_examples(documents, program):
@@ -339,8 +359,8 @@ def index_faults():
     yield from unknown_in_index(text)
     if len([*index_rows(text)]) < 70:
         yield "an index of less than 70 rows"
-    clause, law = ("`certify`: `exact`", "`certify`: `exakt`"), ("`runs_are_seen`", "`runs_were_seen`")
-    file, other = ("`Verdicts`", "`Verdict`"), ("`Glyphs`", "`Lib`")
+    clause, law = ("| certify: exact", "| certify: exakt"), ("| runs_are_seen", "| runs_were_seen")
+    file, other = ("| Verdicts,", "| Verdict,"), ("| Glyphs |", "| Lib |")
     for right, wrong in (clause, law, file, other):
         if right not in text or not [*unknown_in_index(text.replace(right, wrong, 1))]:
             yield f"{wrong} in the place of {right} is not noticed"
@@ -350,8 +370,9 @@ def main():
     program = Path(sys.argv[1]).resolve() if len(sys.argv) > 1 else None
     documents = [TOP / "README.md", *sorted((TOP / "docs").glob("*.md")), TOP / "tests/README.md"]
     count, faults = failed_examples(documents, program) if program else (0, [])
-    helps = help_texts(program) if program else {}
-    faults += [*(f"CONTRACTS.md: {fault}" for fault in index_faults()), *wrong_crates(), *wrong_reach(), *wrong_reasons()]
+    helps = help_texts()
+    faults += [*(f"CONTRACTS.md: {fault}" for fault in index_faults()), *wrong_crates(), *wrong_command_files(), *wrong_reach(), *wrong_reasons()]
+    faults += [*wrong_size(), *unnamed_examples(documents)]
     for document in documents:
         faults += [f"{document.name}: no file {link}" for link in dead_links(document)]
         faults += [f"{document.name}: {fault}" for fault in unknown_names(document, helps)]

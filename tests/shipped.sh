@@ -1,6 +1,6 @@
 #!/bin/sh
-# Checks that what is shipped with the program agrees with it: the test data, the pictures, the demo, the recipes, and the logic that
-# `version` names.
+# Checks that what is shipped with the program agrees with it: the test data, the pictures, the demo, the scripts of examples/, and the
+# logic that `version` names.
 #
 # usage: shipped.sh PROGRAM
 set -u
