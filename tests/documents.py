@@ -1,6 +1,6 @@
 #!/usr/bin/env python3
 """Runs each example of README.md and docs/ word for word, and compares its output. Checks that the links, files, calls, clauses, laws,
-definitions, mutants, commands and options that the documents name exist; that each name of docs/CONTRACTS.md stands in the crate of its
+definitions, mutants, crates, commands, options and quoted lines that the documents name exist; that each name of docs/CONTRACTS.md stands in the crate of its
 row, in a contract that the definitions of the row state; that crates and the files of commands stand where docs/LAYERS.md says; that
 figures quoted from docs/MEASURED.md are there; the table of waits in docs/SERVICE.md; that a document leads to each file of examples/
 (recipes.sh runs them); and that README.md and docs/ together have at most 120 kB.
@@ -180,6 +180,33 @@ def unknown_in_index(text):
                     yield f"{crate}: the contract of {call} names none of the definitions of its row"
 
 
+def quoted_blocks(text):
+    """The indented blocks that are no examples: what they quote, line by line."""
+    for block in re.findall(r"(?:^ {4,}\S.*\n)+", re.sub(r"^```.*?^```$", "", text, flags=re.M | re.S), re.M):
+        if not block.startswith("    $ "):
+            yield block.splitlines()
+
+
+@functools.cache
+def known_lines():
+    """The lines of the sources, definitions and the Makefile, whatever their spaces."""
+    files = [file for part in ("src", "specs") for file in (TOP / "crates").glob(f"*/{part}/**/*") if file.is_file()]
+    return {" ".join(line.removeprefix("# ").split()) for file in [*files, TOP / "Makefile"] for line in file.read_text().splitlines()}
+
+
+def misquoted(document):
+    """The lines that a document quotes and that stand nowhere. The drawing of LAYERS.md quotes nothing."""
+    if document.name != "LAYERS.md":
+        for line in sum(quoted_blocks(document.read_text()), []):
+            if " ".join(line.split()) not in known_lines():
+                yield line.strip()
+
+
+def unknown_crates(document):
+    """The names of crates in a document that crates.txt does not have."""
+    yield from sorted({name for name in re.findall(r"\bttx_[a-z_]+\b", document.read_text())} - set(crates()))
+
+
 @functools.cache
 def known_words():
     """All words of the sources, definitions, proofs, mutants, tests and tools."""
@@ -210,6 +237,7 @@ def unknown_names(document, helps):
     """The names in a document that do not exist."""
     told = [f"no file {name}" for name, path in named_files(document) if not path.exists()]
     told += [*unknown_calls(document), *(f"no name {name}" for name in unknown_terms(document))]
+    told += [*(f"no line {line}" for line in misquoted(document)), *(f"no crate {name}" for name in unknown_crates(document))]
     told += [f"{command} has no {option}" for command, option in named_options(document)
              if command in helps and option not in helps[command]]
     return told
