@@ -714,17 +714,37 @@ pub(crate) const FORCE_OPTION: &str = "Write packets also to a terminal";
 
 pub(crate) const AIR_MORE: &str =
     "Plans SERVICE and certifies its cycle, then writes the cycle again and again, in
-slots of 42 bytes, with the time, as send does. All pages are seen within
-SECONDS; if the least deadline is longer, nothing is sent, and the pages that
-are too slow are named. The reader of standard output sets the pace.
+slots of 42 bytes, with the time, as send does. The reader of standard output
+sets the pace. Of the W fields in SECONDS, the certificates have D, and late
+receivers the others for their gap, in the proportion in which the first text
+needs them; all later texts get the same. If the first one needs more, nothing
+is sent, and the refusal names the pages that are too slow.
 
-At the end of a period, when a change may be made, and at most once a second,
-ttx looks whether SERVICE has another text. A new text is read, planned and
-certified, and the change is judged as by splice. If the answer is yes, the new
-cycle follows at the end of a period. Otherwise the pages on air stay, for
-whatever reason, and the same text is not tried again.
+At the end of a period, once the pages have been sent for D fields, and at most
+once a second, ttx looks whether SERVICE has another text. It plans and
+certifies a new text, and judges the change as splice does. If the answer is
+yes, the new cycle follows at once. Otherwise the old pages stay, for whatever
+reason, and the same text is not tried again.
 
-The log is a line for each event, with its field, on standard error and in FILE.
+The log goes to standard error and to FILE. SHA is the SHA-256 of the text, TIME
+what the clock shows:
+  air within W repeat K late|at-once plain|spread lines L fields N
+      at MJD/HHMMSS zone ZONE|ahead SECONDS
+      what was asked for, in one line; the moment is in UTC
+  field 0 TIME on air SHA: P pages, deadline D fields (S s), C slots
+      the first cycle has P pages and C slots
+  field F TIME changed SHA: P pages new, Q gone, deadline D
+      from field F on, the pages are those of this text
+  field F TIME kept SHA: WORDS
+      the old pages stay; WORDS are a line of check, plan or splice, or
+      late PAGE F fields of D, ..  these pages would come too late
+      no 8 too-far SLOTS           the next page header would come too late
+      no 9 unfollowed PAGE         as with splice --late
+      out of memory
+  field F TIME kept: the text cannot be read
+      or it is too long; the line comes once, until the text can be read again
+  field N TIME end
+      all fields were sent
 
 TIME, --zone and --offset are as those of send. Without --at it is now.
 
@@ -744,10 +764,9 @@ pub(crate) const WATCHED_OPERAND: &str =
     "Service definition: a file with a TOML text of at most 4194304
 bytes, in which changes are looked for";
 
-pub(crate) const AIR_WITHIN_OPTION: &str =
-    "Seconds within which pages are seen, also after a change,
-0.02 to 20000, with at most two decimals, rounded down
-to fields of 0.02 s";
+pub(crate) const AIR_WITHIN_OPTION: &str = "Seconds within which each page is seen, also after a
+change, 0.02 to 20000, with at most two decimals,
+rounded down to fields of 0.02 s";
 
 pub(crate) const AIR_AT_OPTION: &str = "When the first field is sent, see ttx send --help
 [default: now]";
