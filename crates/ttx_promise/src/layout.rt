@@ -77,7 +77,7 @@ fn outline_of(class: Class, page: &Page) -> Outline {
 }
 
 /// The pages of a service as they are sent to receivers of the class.
-pub fn outlines(
+pub(crate) fn outlines(
     alloc: Global,
     service: &Service,
     class: Class,
@@ -146,7 +146,7 @@ fn place_at(places: &[usize], index: usize) -> usize {
 }
 
 /// The blocks of a service in the order of sending, each page at its place among the rounds.
-pub fn blocks(
+pub(crate) fn blocks(
     alloc: Global,
     service: &Service,
     receivers: Receivers,
@@ -171,7 +171,7 @@ pub fn blocks(
 }
 
 /// How many magazines have blocks.
-pub fn used(blocks: &[Block]) -> u32 {
+pub(crate) fn used(blocks: &[Block]) -> u32 {
     let mut count: u32 = 0;
     for queue in 0..8 {
         if blocks.iter().any(|block| block.outline.queue == queue) {

@@ -167,7 +167,7 @@ fn is_info(frame: Frame, at: u32) -> bool {
 }
 
 /// The slots of blocks in parallel transmission.
-pub fn parallel_layout(
+pub(crate) fn parallel_layout(
     alloc: Global,
     blocks: &[Block],
     frame: Frame,

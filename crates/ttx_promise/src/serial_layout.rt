@@ -14,7 +14,7 @@ pub struct Frame {
 
 impl Frame {
     /// The slots from one packet 8/30 to the next.
-    pub fn every(self) -> u32
+    pub(crate) fn every(self) -> u32
         ensures { 2 ≤ result }
     {
         self.lines.max(1).saturating_mul(50).max(2)
@@ -32,14 +32,18 @@ impl Frame {
     }
 
     /// These slots, rounded up to whole fields.
-    pub fn filled(self, slots: u32) -> u32 {
+    pub(crate) fn filled(self, slots: u32) -> u32 {
         let lines = self.lines.max(1);
         slots.div_ceil(lines).wrapping_mul(lines)
     }
 }
 
 /// The slots of blocks in serial transmission.
-pub fn serial_layout(alloc: Global, blocks: &[Block], frame: Frame) -> Result<Layout, AllocError> {
+pub(crate) fn serial_layout(
+    alloc: Global,
+    blocks: &[Block],
+    frame: Frame,
+) -> Result<Layout, AllocError> {
     let mut stands = Vec::new(alloc);
     let mut next: u32 = 0;
     for block in blocks {

@@ -94,7 +94,7 @@ fn layout_of(alloc: Global, service: &Service, blocks: &[Block]) -> Result<Layou
 }
 
 /// The fields that a viewer of each page waits in the spread plan of a service.
-pub fn waits_by_layout(
+pub(crate) fn waits_by_layout(
     alloc: Global,
     service: &Service,
     viewers: Viewers,
