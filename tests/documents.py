@@ -233,24 +233,32 @@ def named_options(document):
             yield command, option
 
 
+def unknown_commands(document, helps):
+    """The commands in backticks or examples of a document that do not exist."""
+    named = re.findall(r"(?:`|^ +\$ |[|;] )ttx ([a-z]+)\b(?! \d)", document.read_text(), re.M)
+    yield from sorted(set(named) - set(helps) - {"help"})
+
+
 def unknown_names(document, helps):
     """The names in a document that do not exist."""
     told = [f"no file {name}" for name, path in named_files(document) if not path.exists()]
     told += [*unknown_calls(document), *(f"no name {name}" for name in unknown_terms(document))]
     told += [*(f"no line {line}" for line in misquoted(document)), *(f"no crate {name}" for name in unknown_crates(document))]
+    told += [f"no command {name}" for name in unknown_commands(document, helps)]
     told += [f"{command} has no {option}" for command, option in named_options(document)
              if command in helps and option not in helps[command]]
     return told
 
 
 def unmeasured(document):
-    """The figures of two digits or more in lines that refer to MEASURED.md, if MEASURED.md does not have them."""
+    """The figures of two digits or more in lines and tables that refer to MEASURED.md, if MEASURED.md does not have them."""
     measured = set(re.findall(r"\d[\d,.]*\d", (TOP / "docs/MEASURED.md").read_text()))
-    for line in document.read_text().splitlines():
-        if "(docs/MEASURED.md)" in line or "](MEASURED.md)" in line:
-            for figure in re.findall(r"\d[\d,.]*\d", re.sub(r"EN 300 706|`[^`]*`", "", line)):
-                if figure not in measured:
-                    yield figure
+    for block in document.read_text().split("\n\n"):
+        for line in [block] if block.startswith("|") else block.splitlines():
+            if "(docs/MEASURED.md)" in line or "](MEASURED.md)" in line:
+                for figure in re.findall(r"\d[\d,.]*\d", re.sub(r"EN 300 706|`[^`]*`", "", line)):
+                    if figure not in measured:
+                        yield figure
 
 
 def crates():
