@@ -235,7 +235,7 @@ def named_options(document):
 
 def unknown_commands(document, helps):
     """The commands in backticks or examples of a document that do not exist."""
-    named = re.findall(r"(?:`|^ +\$ |[|;] )ttx ([a-z]+)\b(?! \d)", document.read_text(), re.M)
+    named = re.findall(r"(?:`|^ +\$ |[|;] )ttx (?!(?:certificate|counter) \d)([a-z]+)", document.read_text(), re.M)
     yield from sorted(set(named) - set(helps) - {"help"})
 
 
