@@ -67,7 +67,7 @@ ComposesTable author (Err NotToml) = ⊥
 ComposesTable author (Err (Mistakes found)) = (found.items ≡ mistakes author) × (0 < length found.items)
 ComposesTable author (Err (Service error)) =
     (mistakes author ≡ []) × (service_of (service_table author) ≡ Err (fault_of error.fault, error.page))
-ComposesTable author (Err Unsaid) = ⊤
+ComposesTable author (Err Unsaid) = mistakes author ≡ []
 ComposesTable author (Err NoMemory) = ⊤
 
 -- the answer for a text, which may be no TOML

@@ -3,13 +3,14 @@
 --   Means                   an author's text has no mistake, and means the table that a text is
 --   IsAuthorOf              it means this table
 --   IsAuthorText            it means the table of a service text
+--   IsService               bytes are a service text
 --   Decomposes              what is answered for a service text
 use Rattle.std.specs.Prelude.{◌≡◌, ◌⊎◌, ℕ, List, [], string_bytes, ⊤, String, Some, Result, Ok, Err}
 use Rattle.toml.specs.Data.{Members}
 use Rattle.toml.specs.Parse.{parse_document}
 use Rattle.ttx_source.specs.Faults.{fault_of}
 use Rattle.ttx_source.specs.KeyFaults.{out_of_memory}
-use Rattle.ttx_source.specs.Services.{read_bytes}
+use Rattle.ttx_source.specs.Services.{ServiceFields, read_bytes}
 use Rattle.std.specs.declared.alloc.Global.{Global}
 use Rattle.ttx_desk.specs.Services.{service_table, mistakes}
 use Rattle.ttx_desk.specs.Composing.{author_in}
@@ -37,11 +38,16 @@ IsUnsaid NoMemory = ⊤
 abbrev pub IsAuthorText : List ℕ → List ℕ → Type 0
 IsAuthorText text bytes = (table : Members) × (author_in bytes ≡ Some table) × IsAuthorOf text table
 
+-- the bytes are a service text
+abbrev pub IsService : List ℕ → Type 0
+IsService bytes = (service : ServiceFields) × (read_bytes bytes ≡ Ok service)
+
 -- An author's text means the very table of the service text, which is that of a service. Otherwise the first fault of the service text.
+-- `Unsaid` is answered for a service text alone.
 abbrev pub Decomposes : List ℕ → Result Decomposed DecomposeFault → Type 0
 Decomposes bytes (Ok decomposed) = IsAuthorText (string_bytes decomposed.text) bytes × (read_bytes bytes ≡ Ok decomposed.service)
 Decomposes bytes (Err (Service error)) = (error ≡ out_of_memory) ⊎ (read_bytes bytes ≡ Err (fault_of error.fault, error.page))
-Decomposes bytes (Err Unsaid) = ⊤
+Decomposes bytes (Err Unsaid) = IsService bytes
 Decomposes bytes (Err NoMemory) = ⊤
 
 -- the same without the service

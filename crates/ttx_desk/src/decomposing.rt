@@ -9,7 +9,7 @@ ghost use Rattle.ttx_desk.specs.Decomposing as rule;
 use crate::composing::plain_text;
 use crate::depths::is_within;
 use crate::services::service_of;
-use crate::unwriting::author_text;
+use crate::unwriting::{author_of, author_text, first_lines};
 use std::alloc::{AllocError, Global};
 use toml::Table;
 use ttx_source::{Service, SourceError, read_service};
@@ -26,7 +26,7 @@ pub struct Decomposed {
 pub enum DecomposeFault {
     /// The service text is refused; also if an allocation failed while it was read.
     Service(SourceError),
-    /// The author's text would mean another table.
+    /// The author's text would mean another table: a service text that has the key `author`.
     Unsaid,
     /// An allocation failed.
     NoMemory,
@@ -53,6 +53,59 @@ fn means(alloc: Global, author: &str, plain: &str) -> Result<bool, AllocError>
     }
 }
 
+// The author's text in which the rest is printed plainly: what has tables of its own inside pages.
+fn bare_text(alloc: Global, author: &Table, source: &str) -> Result<String, AllocError> {
+    let Some(body) = plain_text(alloc, author) else {
+        return Err(AllocError);
+    };
+    let mut text = first_lines(alloc, source)?;
+    text.push_str(body.as_str())?;
+    Ok(text)
+}
+
+// The same, if it means a table.
+fn bare_meaning(
+    alloc: Global,
+    author: &Table,
+    source: &str,
+    plain: &str,
+) -> Result<String, DecomposeFault>
+    ensures text { IfOk result (λ text. rule.Means (string_bytes text) plain.now) }
+    ensures refused { IfErr result rule.IsUnsaid }
+{
+    let Ok(text) = bare_text(alloc, author, source) else {
+        return Err(DecomposeFault::NoMemory);
+    };
+    match means(alloc, text.as_str(), plain) {
+        Ok(true) => Ok(text),
+        Ok(false) => Err(DecomposeFault::Unsaid),
+        Err(_) => Err(DecomposeFault::NoMemory),
+    }
+}
+
+// An author's text that means a table.
+fn text_meaning(
+    alloc: Global,
+    table: &Table,
+    source: &str,
+    plain: &str,
+) -> Result<String, DecomposeFault>
+    ensures text { IfOk result (λ text. rule.Means (string_bytes text) plain.now) }
+    ensures refused { IfErr result rule.IsUnsaid }
+{
+    let Ok(author) = author_of(alloc, table) else {
+        return Err(DecomposeFault::NoMemory);
+    };
+    let Ok(text) = author_text(alloc, &author, source) else {
+        return Err(DecomposeFault::NoMemory);
+    };
+    match means(alloc, text.as_str(), plain) {
+        Ok(true) => Ok(text),
+        Ok(false) => bare_meaning(alloc, &author, source, plain),
+        Err(_) => Err(DecomposeFault::NoMemory),
+    }
+}
+
 // The author's text of the table of a service.
 fn decompose_table(alloc: Global, table: &Table, source: &str) -> Result<String, DecomposeFault>
     ensures text { IfOk result (λ text. rule.IsAuthorOf (string_bytes text) (table_view table.now)) }
@@ -61,16 +114,9 @@ fn decompose_table(alloc: Global, table: &Table, source: &str) -> Result<String,
     if !is_within(table, 80) {
         return Err(DecomposeFault::Unsaid);
     }
-    let Some(plain) = plain_text(alloc, table) else {
-        return Err(DecomposeFault::NoMemory);
-    };
-    let Ok(text) = author_text(alloc, table, source) else {
-        return Err(DecomposeFault::NoMemory);
-    };
-    match means(alloc, text.as_str(), plain.as_str()) {
-        Ok(true) => Ok(text),
-        Ok(false) => Err(DecomposeFault::Unsaid),
-        Err(_) => Err(DecomposeFault::NoMemory),
+    match plain_text(alloc, table) {
+        Some(plain) => text_meaning(alloc, table, source, plain.as_str()),
+        None => Err(DecomposeFault::NoMemory),
     }
 }
 

@@ -2,7 +2,7 @@
 
 use crate::composing::printed_name;
 use crate::rows::row_key;
-use crate::tables::{array_at, copy_of, member, put, table_at, text_at};
+use crate::tables::{array_at, copy_of, member, put, table_at, take_out, text_at};
 use crate::words::option_name;
 use crate::writing::push_service;
 use std::alloc::{AllocError, Global};
@@ -124,10 +124,10 @@ fn pages_of(alloc: Global, pages: &[Value]) -> Result<Vec<Value>, AllocError> {
     Ok(out)
 }
 
-// The table of a service as an author writes it.
-fn author_of(alloc: Global, service: &Table) -> Result<Table, AllocError> {
+/// The table of a service as an author writes it, without the key `author`.
+pub(crate) fn author_of(alloc: Global, service: &Table) -> Result<Table, AllocError> {
     let mut out = copy_of(service)?;
-    put(alloc, &mut out, "author", Value::Integer(1))?;
+    take_out(&mut out, "author");
     if let Some(info) = table_at(service, "info") {
         let mut written = copy_of(info)?;
         write_text(alloc, &mut written, info, "text", NationalOption::English)?;
@@ -144,17 +144,22 @@ fn author_of(alloc: Global, service: &Table) -> Result<Table, AllocError> {
     Ok(out)
 }
 
-/// The author's text of the table of a service.
-pub(crate) fn author_text(
-    alloc: Global,
-    service: &Table,
-    source: &str,
-) -> Result<String, AllocError> {
-    let author = author_of(alloc, service)?;
+/// The beginning of an author's text: a comment that names the service text, and the key that marks an author's text.
+pub(crate) fn first_lines(alloc: Global, source: &str) -> Result<String, AllocError> {
     let mut text = String::new(alloc);
     text.push_str("# Decomposed from ")?;
     text.push_str(printed_name(source))?;
-    text.push_str(" by ttx decompose.\n")?;
-    push_service(alloc, &mut text, &author, &[])?;
+    text.push_str(" by ttx decompose.\nauthor = 1\n")?;
+    Ok(text)
+}
+
+/// The author's text of a table that is as an author writes it.
+pub(crate) fn author_text(
+    alloc: Global,
+    author: &Table,
+    source: &str,
+) -> Result<String, AllocError> {
+    let mut text = first_lines(alloc, source)?;
+    push_service(alloc, &mut text, author, &[])?;
     Ok(text)
 }
