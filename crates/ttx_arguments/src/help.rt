@@ -135,7 +135,14 @@ Statuses:
   2  error: .. (the arguments), refused: seconds, refused: deadlines (both
      options), refused: twice, refused: cycle NUMBER NAME [REST],
      refused: service NUMBER NAME [KEY] page N, refused: service too-long
-  3  fault: file, fault: read, fault: write, fault: memory";
+  3  fault: file, fault: read, fault: write, fault: memory
+
+What found means: certify says yes to CYCLE, SERVICE and OUT. Without --deadline
+and --within, no certificate for these receivers and this K has a smaller
+deadline.
+What it does not mean: that D fields are short enough for viewers (wait has the
+time for each page), or that receivers that show a page late show it in time
+(certify --late). What a yes means is at the end of ttx certify --help.";
 
 pub(crate) const CERTIFY_MORE: &str =
     "Reads CYCLE, SERVICE and CERT, in this order, to their ends. With --twice it
@@ -187,7 +194,18 @@ Statuses:
      refused: twice, refused: cycle NUMBER NAME [REST],
      refused: service NUMBER NAME [KEY] page N, refused: service too-long,
      refused: certificate NUMBER NAME [line N], refused: certificate too-long
-  3  fault: file, fault: read, fault: write, fault: memory";
+  3  fault: file, fault: read, fault: write, fault: memory
+
+What a yes means: while CYCLE is repeated, every receiver that keeps the rules
+of the standard shows each page of SERVICE as it is written, with its links, at
+most D fields after it is set to the page, and from then on. Each byte may come
+with one wrong bit, but no slot may be lost, and of K successive transmissions
+of a character at least one comes right. Columns 0 to 7 and 32 to 39 of row 0
+may show anything.
+What it does not mean: that all sets keep the rules, or that reception is so
+good. It promises nothing for pages that SERVICE lacks, nor once another cycle
+is sent (see splice).
+A no does not mean that a viewer is failed; refute looks for one.";
 
 pub(crate) const LATE_OPTION: &str = "Judge also for receivers that may show a page late";
 
@@ -201,10 +219,8 @@ be of class any; only its lines, repeat and deadline count. Writes one of
   counter PAGE start S slots N hits H choices C
 The second line means: a receiver set to PAGE that receives N slots from slot S
 on, round the cycle, with H wrong bits (within the error rule) and C choices,
-ends with something other than the page. So no certificate with these numbers is
-accepted. If all pages are sent unchanged in clean slots, none means that some
-such certificate is accepted. With --save OUT the counter-run is written to OUT;
-OUT stays empty if there is none.
+ends with something other than the page. With --save OUT the counter-run is
+written to OUT; OUT stays empty if there is none.
 
 Statuses:
   0  none
@@ -214,7 +230,16 @@ Statuses:
      refused: service NUMBER NAME [KEY] page N, refused: service too-long,
      refused: certificate NUMBER NAME [line N], refused: certificate too-long,
      refused: class (the certificate is for receivers that surely clear)
-  3  fault: file, fault: read, fault: write, fault: memory";
+  3  fault: file, fault: read, fault: write, fault: memory
+
+What a counter-run means: the rules of the standard allow this receiver and this
+reception, and the page that it shows is wrong. So no certificate with these
+numbers is accepted. It does not mean that there is such a set, or how often
+reception is like that.
+What none means: if all pages are sent unchanged in clean slots, certify says
+yes to some certificate with these numbers; find writes one. It does not mean
+that certify says yes to CERT. If a page is not sent unchanged, or a slot is not
+clean, none leaves open whether a viewer is failed.";
 
 pub(crate) const REPLAY_MORE: &str =
     "Reads CYCLE, SERVICE and COUNTER, in this order, to their ends. If COUNTER is a
@@ -368,7 +393,14 @@ Statuses:
      refused: cycle NUMBER NAME [REST],
      refused: service NUMBER NAME [KEY] page N, refused: service too-long,
      refused: certificate NUMBER NAME [line N], refused: certificate too-long
-  3  fault: file, fault: read, fault: write, fault: memory";
+  3  fault: file, fault: read, fault: write, fault: memory
+
+What a yes means: what is said of it above, for the receivers and the reception
+of which certify speaks (see the end of ttx certify --help), if slot 0 of NEW
+follows the last slot of a period of OLD.
+What it does not mean: that a page that the change alters or adds is seen before
+D fields have passed, that a page that it drops is still seen, or that the
+change may be made in another slot.";
 
 pub(crate) const WAIT_MORE: &str =
     "Reads CYCLE and SERVICE, in this order, to their ends. Writes a line for each
