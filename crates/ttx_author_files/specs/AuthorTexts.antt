@@ -1,0 +1,97 @@
+-- Which texts are authors' texts, and the service text that a file stands for (profile).
+--
+--   begins_author           the first key of a text is `author`
+--   is_author_text          and its value is 1, in a TOML text
+--   IsTextBy, StandsFor     the service text of a file: composed of an author's text, otherwise the bytes themselves
+--   IsAuthorLines, IsRefusedAuthor    the lines about an author's text that has none
+--   ReadsStanding           what is answered for the bytes of a file
+use Rattle.std.specs.Prelude.{◌≡◌, ◌<◌, ◌≤◌, ℕ, ℤ, pos, negsuc, Bool, true, false, ◌&&◌, ◌==◌, List, codes, length, ⊤, Option, Some, None, option_and_then, if◌then◌else◌, Result, Ok, Err, string_bytes}
+use Rattle.std.specs.Str.{bytes_eq, is_utf8}
+use Rattle.toml.specs.Data.{Members, get_member, as_integer}
+use Rattle.toml.specs.Parse.{skip_bom, parse_document}
+use Rattle.toml_parser.specs.Lexical.{skip_blank}
+use Rattle.toml_parser.specs.Lexical as lexical
+use Rattle.toml_parser.specs.Strings.{Key, key}
+use Rattle.ttx_cycle.specs.Bounded.{most_bytes}
+use Rattle.ttx_files.specs.declared.faults.FilesFault.{FilesFault}
+use Rattle.ttx_files.specs.declared.faults.FilesFault.TheVariants.{Service, Read, TooLong}
+use Rattle.ttx_files.specs.declared.faults.FilesFault.TheVariants as files
+use Rattle.ttx_files.specs.declared.faults.TextFile.TheVariants as text
+use Rattle.ttx_desk.specs.Composing.{author_in, Composes}
+use Rattle.ttx_desk.specs.declared.composing.Composed.{Composed}
+use Rattle.ttx_desk.specs.declared.composing.ComposeFault.{ComposeFault}
+use Rattle.ttx_desk.specs.declared.composing.ComposeFault.TheVariants as fault
+use Rattle.ttx_author_files.specs.Composing.{IsRefusal}
+use Rattle.ttx_author_files.specs.declared.author_texts.Standing.{Standing}
+use Rattle.ttx_author_files.specs.declared.author_texts.Standing.TheVariants.{Text, Lines}
+
+abbrev pub is_author_key : Key → Bool
+is_author_key key = (length key.0 == 0) && bytes_eq key.1 (codes "author")
+
+abbrev pub is_author_read : lexical.Read Key → Bool
+is_author_read None = false
+is_author_read (Some read) = is_author_key read.0
+
+-- behind white space and comments
+abbrev pub begins_author : List ℕ → Bool
+begins_author text = is_author_read (key (skip_blank (skip_bom text)))
+
+abbrev pub is_one : Option ℤ → Bool
+is_one None = false
+is_one (Some (pos number)) = number == 1
+is_one (Some (negsuc number)) = false
+
+abbrev pub is_marked : Option Members → Bool
+is_marked None = false
+is_marked (Some table) = is_one (option_and_then as_integer (get_member (codes "author") table))
+
+-- the same of a text, which must be UTF-8
+abbrev pub is_author : List ℕ → Bool
+is_author text = begins_author text && is_marked (parse_document text)
+
+abbrev pub is_author_text : List ℕ → Bool
+is_author_text bytes = if is_utf8 bytes then is_author bytes else false
+
+-- the service text of a file, by whether it is an author's text
+abbrev pub IsTextBy : Bool → List ℕ → List ℕ → Type 0
+IsTextBy true bytes text = (composed : Composed) × Composes (author_in bytes) (Ok composed) × (text ≡ string_bytes composed.text)
+IsTextBy false bytes text = text ≡ bytes
+
+-- the service text that the bytes of a file stand for
+abbrev pub StandsFor : List ℕ → List ℕ → Type 0
+StandsFor bytes text = (length bytes ≤ most_bytes) × IsTextBy (is_author_text bytes) bytes text
+
+-- lines about an author's text that has no service text
+abbrev pub IsAuthorLines : List ℕ → List ℕ → List ℕ → Type 0
+IsAuthorLines name bytes lines = (why : ComposeFault) × Composes (author_in bytes) (Err why) × IsRefusal name bytes why lines
+
+abbrev pub IsRefusedAuthor : List ℕ → List ℕ → List ℕ → Type 0
+IsRefusedAuthor name bytes lines = (is_author_text bytes ≡ true) × IsAuthorLines name bytes lines
+
+-- the same by why it has none
+abbrev pub IsLinesAbout : List ℕ → List ℕ → ComposeFault → Standing → Type 0
+IsLinesAbout name bytes why (Text text) = ⊥
+IsLinesAbout name bytes why (Lines lines) = IsRefusal name bytes why (string_bytes lines)
+
+-- what is answered for an author's text
+abbrev pub ReadsAuthor : List ℕ → List ℕ → Result Standing FilesFault → Type 0
+ReadsAuthor name bytes (Ok (Text text)) = IsTextBy true bytes text.items
+ReadsAuthor name bytes (Ok (Lines lines)) = IsAuthorLines name bytes (string_bytes lines)
+ReadsAuthor name bytes (Err (Service error)) = Composes (author_in bytes) (Err (fault.Service error))
+ReadsAuthor name bytes (Err files.NoMemory) = ⊤
+ReadsAuthor name bytes (Err _) = ⊥
+
+-- and for any bytes
+abbrev pub ReadsBytes : List ℕ → List ℕ → Result Standing FilesFault → Type 0
+ReadsBytes name bytes (Ok (Text text)) = IsTextBy (is_author_text bytes) bytes text.items
+ReadsBytes name bytes (Ok (Lines lines)) = IsRefusedAuthor name bytes (string_bytes lines)
+ReadsBytes name bytes (Err (Service error)) = (is_author_text bytes ≡ true) × Composes (author_in bytes) (Err (fault.Service error))
+ReadsBytes name bytes (Err files.NoMemory) = ⊤
+ReadsBytes name bytes (Err _) = ⊥
+
+-- a file whose bytes are too many or not read stands for nothing
+abbrev pub ReadsStanding : List ℕ → List ℕ → Result Standing FilesFault → Type 0
+ReadsStanding name bytes (Err (Read which)) = which ≡ text.Service
+ReadsStanding name bytes (Err (TooLong which)) = (which ≡ text.Service) × (most_bytes < length bytes)
+ReadsStanding name bytes (Err files.NoMemory) = ⊤
+ReadsStanding name bytes answer = (length bytes ≤ most_bytes) × ReadsBytes name bytes answer

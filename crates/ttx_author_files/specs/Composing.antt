@@ -1,0 +1,93 @@
+-- What `compose` writes for the bytes of an author's text.
+--
+--   composed_line           the line that says how many pages there are
+--   IsComposedFile          the service text, and that line
+--   IsRefusal               the lines about an author's text that has no service text
+--   IsRefusedFile           these lines, and no text
+--   IsTold                  the status, the text and the lines
+--   IsFaultOf               a refusal of the service text, which has a line of its own
+--   IsNotTold               why there are none: the service text is refused, or the author's text is not read
+--   TellsText               what is told of the bytes of an author's text
+--   ComposesFile            what was written to the text's file and to the output, at each answer
+use Rattle.std.specs.Prelude.{◌≡◌, ◌⊎◌, ℕ, ◌<◌, ◌≤◌, List, [], ◌∷◌, ◌++◌, codes, length, string_bytes, ⊤, Option, Result, Ok, Err}
+use Rattle.std.specs.Fmt.{decimal}
+use Rattle.std.specs.Io.KnownBytes.{Keeps}
+use Rattle.ttx_cycle.specs.Bounded.{most_bytes}
+use Rattle.ttx_files.specs.Answers.{WritesBoth}
+use Rattle.ttx_files.specs.declared.faults.FilesFault.{FilesFault}
+use Rattle.ttx_files.specs.declared.faults.FilesFault.TheVariants.{Service, Read, TooLong, Write, NoMemory}
+use Rattle.ttx_files.specs.declared.faults.TextFile.TheVariants as text
+use Rattle.ttx_files.specs.declared.told.Filed.{Filed}
+use Rattle.ttx_desk.specs.Composing.{author_in, BeginsWith, Composes, first_comment}
+use Rattle.ttx_desk.specs.MistakeLines.{IsMistakeReport, IsTomlReport}
+use Rattle.ttx_desk.specs.declared.composing.Composed.{Composed}
+use Rattle.ttx_desk.specs.declared.composing.ComposeFault.{ComposeFault}
+use Rattle.ttx_desk.specs.declared.composing.ComposeFault.TheVariants as fault
+
+abbrev pub composed_line : ℕ → List ℕ
+composed_line count = codes "composed " ++ decimal count ++ codes " pages" ++ 10 ∷ []
+
+abbrev pub unsaid_line : List ℕ → List ℕ
+unsaid_line name = name ++ codes ": error: the service text would be read as another\n"
+
+-- The service text that the author's text means. It begins with the comment that names its source, and the line counts its pages.
+pub record IsComposedFile (name bytes text line : List ℕ) : Type 0 where
+  pub composed : Composed
+  pub answer : Composes (author_in bytes) (Ok composed)
+  pub comment : BeginsWith (first_comment name) (string_bytes composed.text)
+  pub text_is : text ≡ string_bytes composed.text
+  pub line_is : line ≡ composed_line (length composed.service.pages)
+
+-- the lines of all mistakes, or about a text that is no TOML, or that would be read as another
+abbrev pub IsRefusal : List ℕ → List ℕ → ComposeFault → List ℕ → Type 0
+IsRefusal name bytes fault.NotToml lines = IsTomlReport name bytes lines
+IsRefusal name bytes (fault.Mistakes found) lines = IsMistakeReport name bytes found.items lines
+IsRefusal name bytes fault.Unsaid lines = lines ≡ unsaid_line name
+IsRefusal name bytes _ lines = ⊥
+
+-- no text, and the lines about what is wrong
+pub record IsRefusedFile (name bytes text lines : List ℕ) : Type 0 where
+  pub why : ComposeFault
+  pub answer : Composes (author_in bytes) (Err why)
+  pub says : IsRefusal name bytes why lines
+  pub none : text ≡ []
+
+-- status 0: the service text and its line; status 1: no text, and the lines about what is wrong
+abbrev pub IsToldBy : List ℕ → List ℕ → ℕ → List ℕ → List ℕ → Type 0
+IsToldBy name bytes status text lines =
+    ((status ≡ 0) × IsComposedFile name bytes text lines) ⊎ ((status ≡ 1) × IsRefusedFile name bytes text lines)
+
+abbrev pub IsTold : List ℕ → List ℕ → ℕ → List ℕ → List ℕ → Type 0
+IsTold name bytes status text lines = (length bytes ≤ most_bytes) × IsToldBy name bytes status text lines
+
+-- a fault that has a line of its own: the refusal of the service text, or want of memory
+abbrev pub IsFaultOf : ComposeFault → FilesFault → Type 0
+IsFaultOf why (Service error) = why ≡ fault.Service error
+IsFaultOf why NoMemory = ⊤
+IsFaultOf why _ = ⊥
+
+-- why an author's text that is read has neither text nor lines: its service text is refused
+abbrev pub IsRefusedText : List ℕ → FilesFault → Type 0
+IsRefusedText bytes (Service error) = Composes (author_in bytes) (Err (fault.Service error))
+IsRefusedText bytes NoMemory = ⊤
+IsRefusedText bytes _ = ⊥
+
+-- why nothing is told: the service text is refused, or the author's text is not read
+abbrev pub IsNotTold : List ℕ → FilesFault → Type 0
+IsNotTold bytes (Service error) = Composes (author_in bytes) (Err (fault.Service error))
+IsNotTold bytes (Read which) = which ≡ text.Service
+IsNotTold bytes (TooLong which) = (which ≡ text.Service) × (most_bytes < length bytes)
+IsNotTold bytes NoMemory = ⊤
+IsNotTold bytes _ = ⊥
+
+abbrev pub TellsText : List ℕ → List ℕ → Result (Filed ℕ) FilesFault → Type 0
+TellsText name bytes (Ok told) = IsTold name bytes told.verdict told.file.items (string_bytes told.line)
+TellsText name bytes (Err fault) = IsNotTold bytes fault
+
+-- Ok: text and lines. A write fault: the first `written` bytes of both. Otherwise nothing, and why.
+abbrev pub ComposesFile : List ℕ → List ℕ → Option (List ℕ) → Option (List ℕ) → Option (List ℕ) → Option (List ℕ) → Result ℕ FilesFault → Type 0
+ComposesFile name bytes file_old file_new old new (Ok status) =
+    (text line : List ℕ) × IsTold name bytes status text line × WritesBoth text line file_old file_new old new (Ok status)
+ComposesFile name bytes file_old file_new old new (Err (Write written)) =
+    (status : ℕ) × (text line : List ℕ) × IsTold name bytes status text line × WritesBoth {T = ℕ} text line file_old file_new old new (Err (Write written))
+ComposesFile name bytes file_old file_new old new (Err fault) = IsNotTold bytes fault × Keeps file_old file_new × Keeps old new

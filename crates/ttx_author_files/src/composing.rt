@@ -1,0 +1,161 @@
+//! `compose`: the service text of an author's text, or its mistakes.
+
+ghost use Rattle.std.specs.Prelude.{◌≡◌, ◌∷◌, [], None, length, IfSome, IfOk, IfErr, string_bytes};
+ghost use Rattle.ttx_cycle.specs.Counters.{inner_of, faults_of};
+ghost use Rattle.ttx_files.specs.Answers.{IsUntouched, is_write};
+ghost use Rattle.ttx_files.specs.Devices.{AtService, AtOutput, input, output, failed_at, IsFirstFailure, IsOf};
+ghost use Rattle.ttx_author_files.specs.Composing as rule;
+
+use std::alloc::{AllocError, Global};
+use std::io::{Read, Write};
+use ttx_cycle::Counted;
+use ttx_desk::{ComposeFault, Composed, compose, mistakes_report, toml_report};
+use ttx_files::{Filed, FilesFault, read_service_text, write_both};
+
+// The line that says how many pages there are.
+fn composed_line(alloc: Global, count: usize) -> Result<String, AllocError>
+    ensures { IfOk result (λ line. string_bytes line ≡ rule.composed_line count) }
+{
+    format!(in alloc; "composed {count} pages\n")
+}
+
+// The line about an author's text whose service text would be read as another.
+fn unsaid_line(alloc: Global, name: &str) -> Result<String, AllocError>
+    ensures { IfOk result (λ line. string_bytes line ≡ rule.unsaid_line name.now) }
+{
+    let mut line = String::from_str(alloc, name)?;
+    line.push_str(": error: the service text would be read as another\n")?;
+    Ok(line)
+}
+
+// The status, the text and the line of an author's text that is composed.
+fn tell_text(alloc: Global, composed: Composed) -> Result<Filed<u8>, FilesFault>
+    ensures told { IfOk result (λ told. (told.verdict ≡ 0) × (told.file.items ≡ string_bytes composed.text)
+        × (string_bytes told.line ≡ rule.composed_line (length composed.service.pages))) }
+    ensures fault { IfErr result (λ fault. fault ≡ FilesFault.NoMemory) }
+{
+    match composed_line(alloc, composed.service.pages().len()) {
+        Ok(line) => Ok(Filed {
+            verdict: 0,
+            file: composed.text.into_bytes(),
+            line,
+        }),
+        Err(_) => Err(FilesFault::NoMemory),
+    }
+}
+
+// The lines that memory is there for.
+fn lines_or_memory(lines: Result<String, AllocError>) -> Result<String, FilesFault>
+    ensures ok { IfOk result (λ line. lines ≡ Ok line) }
+    ensures fault { IfErr result (λ fault. fault ≡ FilesFault.NoMemory) }
+{
+    match lines {
+        Ok(line) => Ok(line),
+        Err(_) => Err(FilesFault::NoMemory),
+    }
+}
+
+/// The lines about an author's text that has no service text. The refusal of a service text has a line of its own.
+pub(crate) fn refusal(
+    alloc: Global,
+    name: &str,
+    author: &[u8],
+    fault: &ComposeFault,
+) -> Result<String, FilesFault>
+    ensures lines { IfOk result (λ lines. rule.IsRefusal name.now author.now fault.now (string_bytes lines)) }
+    ensures refused { IfErr result (rule.IsFaultOf fault.now) }
+{
+    match fault {
+        ComposeFault::NotToml => lines_or_memory(toml_report(alloc, name, author)),
+        ComposeFault::Mistakes(mistakes) => {
+            lines_or_memory(mistakes_report(alloc, name, author, mistakes.as_slice()))
+        }
+        ComposeFault::Unsaid => lines_or_memory(unsaid_line(alloc, name)),
+        ComposeFault::Service(error) => Err(FilesFault::Service(*error)),
+        ComposeFault::NoMemory => Err(FilesFault::NoMemory),
+    }
+}
+
+// The status, no text, and the lines about an author's text that has no service text.
+fn tell_lines(
+    alloc: Global,
+    name: &str,
+    author: &[u8],
+    fault: &ComposeFault,
+) -> Result<Filed<u8>, FilesFault>
+    ensures told { IfOk result (λ told. (told.verdict ≡ 1) × (told.file.items ≡ [])
+        × rule.IsRefusal name.now author.now fault.now (string_bytes told.line)) }
+    ensures refused { IfErr result (rule.IsFaultOf fault.now) }
+{
+    match refusal(alloc, name, author, fault) {
+        Ok(line) => Ok(Filed {
+            verdict: 1,
+            file: Vec::new(alloc),
+            line,
+        }),
+        Err(fault) => Err(fault),
+    }
+}
+
+// The status, the text and the lines about an author's text.
+fn tell(alloc: Global, name: &str, author: &[u8]) -> Result<Filed<u8>, FilesFault>
+    ensures told { IfOk result (λ told. rule.IsToldBy name.now author.now told.verdict told.file.items (string_bytes told.line)) }
+    ensures refused { IfErr result (rule.IsRefusedText author.now) }
+{
+    match compose(alloc, author, name) {
+        Ok(composed) => tell_text(alloc, composed),
+        Err(fault) => tell_lines(alloc, name, author, &fault),
+    }
+}
+
+// The same of what is read.
+fn read_told<R: Read>(
+    alloc: Global,
+    name: &str,
+    reader: &mut Counted<R>,
+) -> Result<Filed<u8>, FilesFault>
+    ensures bytes { IfSome (R.remaining (inner_of reader.old)) (λ bytes. rule.TellsText name.now bytes result) }
+    ensures own { IfErr result (IsOf (AtService ∷ [])) }
+    ensures faults { IsFirstFailure (input AtService None (faults_of reader.old) (faults_of reader.new) ∷ []) (failed_at result) }
+{
+    let text = match read_service_text(alloc, reader) {
+        Ok(text) => text,
+        Err(fault) => return Err(fault),
+    };
+    match tell(alloc, name, text.as_slice()) {
+        Ok(told) => Ok(told),
+        Err(fault) => Err(fault),
+    }
+}
+
+/// Reads an author's text, of at most 4,194,304 bytes, and writes the service text that it means to `file`; then the number of its pages to
+/// `writer`: the status is 0. Where the text has mistakes or is not TOML, `file` gets nothing and `writer` a line for each mistake, with its
+/// place, and their number: the status is 1. `name` is the name of the author's text, in the lines and in the first comment of the service
+/// text.
+///
+/// Nothing is written before the service text is read again. At `Write` exactly the first `written` bytes of both went out, the file's
+/// before the line's; at each other fault both writers are as they were. `Service` is the fault of the service text.
+pub fn compose_file<R: Read, O: Write, W: Write>(
+    alloc: Global,
+    name: &str,
+    reader: &mut Counted<R>,
+    file: &mut Counted<O>,
+    writer: &mut Counted<W>,
+) -> Result<u8, FilesFault>
+    ensures bytes { IfSome (R.remaining (inner_of reader.old)) (λ bytes. rule.ComposesFile name.now bytes
+        (O.contents (inner_of file.old)) (O.contents (inner_of file.new)) (W.contents (inner_of writer.old)) (W.contents (inner_of writer.new))
+        result) }
+    ensures own { IfErr result (IsOf (AtService ∷ AtOutput ∷ [])) }
+    ensures faults { IsFirstFailure (input AtService None (faults_of reader.old) (faults_of reader.new)
+        ∷ output (faults_of file.old) (faults_of file.new) ∷ output (faults_of writer.old) (faults_of writer.new) ∷ []) (failed_at result) }
+    ensures untouched { IsUntouched is_write result file.old file.new × IsUntouched is_write result writer.old writer.new }
+{
+    let told = match read_told(alloc, name, reader) {
+        Ok(told) => told,
+        Err(fault) => return Err(fault),
+    };
+    match write_both(file, told.file.as_slice(), writer, told.line.as_bytes()) {
+        Ok(()) => Ok(told.verdict),
+        Err(fault) => Err(fault),
+    }
+}
