@@ -4,7 +4,7 @@
 # usage: demo.sh PROGRAM
 set -u
 . "$(dirname "$0")/../tests/workplace.sh"
-cp "$top/examples/broadcast.toml" "$top/tests/data/often-3.toml" "$work"
+cp "$top/examples/broadcast.toml" "$top/examples/harbour.toml" "$top/tests/data/often-3.toml" "$work"
 cp "$top/tests/data/bad-slot.t42" "$top/tests/data/83-bytes" "$work"
 cd "$work" || exit 1
 
@@ -96,6 +96,10 @@ sed 's/0001Storm /0003Sunny /' broadcast.toml > tomorrow.toml
 run plan tomorrow.toml tomorrow.t42
 run find tomorrow.t42 tomorrow.toml tomorrow.cert
 run splice broadcast.t42 tomorrow.t42 broadcast.toml tomorrow.toml broadcast.cert tomorrow.cert
+echo "A text as its author writes it, accents, colours and mosaics as they look, becomes a service text, a cycle, and a page on a screen."
+run compose harbour.toml harbour-service.toml
+run plan harbour-service.toml harbour.t42
+look show harbour.t42 100 --lines 12
 echo "All pages as one HTML file for a browser, with an index: three typed digits lead to a page."
 run book broadcast.t42 broadcast.html
 show ls broadcast.html

@@ -1,17 +1,19 @@
 #!/usr/bin/env python3
-"""Compares authors' rows and whole texts with a plain model.
+"""Compares what `compose` and `decompose` make of authors' texts with a plain model.
 
-usage: authors.py write > CASES          300 random texts and 300 random rows, a line each
-       authors.py compare CASES ANSWERS  the answers of a program to these lines, beside the plain model
-       authors.py texts FOLDER           300 random authors' texts, NNN.toml, and what is due for each
-       authors.py composed FOLDER        NNN.toml.out, what `compose` wrote or its mistakes, beside the plain model
+usage: authors.py PROGRAM
 
-A line is `text OPTION TEXT` or `row OPTION HEX`, with tabs. The answers are `ok HEX`, `lack PLACE WHY` and `text TEXT`. The plain model knows
-the national sets and Unicode's names of block mosaics, and shares no code with the program.
+300 random authors' texts are composed, or all their mistakes reported with line and column; 300 random rows are composed; 300 random rows of
+codes are decomposed and composed again. Each composed text, decomposed and composed again, is the same service. The plain model knows the
+national sets and Unicode's names of block mosaics, and shares no code with the program.
 """
+import os
 import random
 import re
+import subprocess
 import sys
+import tempfile
+import tomllib
 import unicodedata
 
 PLACES = "#$@[\\]^_`{|}~"
@@ -107,38 +109,7 @@ def mixed_text(rng):
     return option, "".join(parts)
 
 
-def write():
-    rng = random.Random(49)
-    for case in range(300):
-        option, text = (some_text if case % 2 else mixed_text)(rng)
-        print(f"text\t{option}\t{text}")
-    for case in range(300):
-        weights = [rng.random() < 0.6 for _ in range(40)]
-        row = [rng.choice([10, 11, 1, 0x11, rng.randrange(32)]) if not w else rng.choice([0x20, rng.randrange(0x20, 0x80)]) for w in weights]
-        row = row[: rng.randrange(41)]
-        print(f"row\t{rng.randrange(8)}\t{bytes(row + [0x20] * (40 - len(row))).hex()}")
-
-
-def compare(cases, answers):
-    with open(cases, encoding="utf-8", newline="\n") as lines, open(answers, encoding="utf-8", newline="\n") as told:
-        cases, told = lines.read().split("\n")[:-1], told.read().split("\n")[:-1]
-    assert len(cases) == len(told), (len(cases), len(told))
-    kinds = {}
-    for case, answer in zip(cases, told):
-        kind, option, rest = case.split("\t", 2)
-        if kind == "text":
-            wanted = codes(rest, int(option))
-            assert answer == wanted, (case, answer, wanted)
-            kind = "refused for " + wanted.split()[2] if wanted.startswith("lack") else "with a meaning"
-        else:
-            assert answer.startswith("text "), (case, answer)
-            assert codes(answer[5:], int(option)) == "ok " + rest, (case, answer)
-            assert not answer.endswith(" ") or answer == "text ", (case, answer)
-            kind = "rows"
-        kinds[kind] = kinds.get(kind, 0) + 1
-    print("authors:", ", ".join(f"{kind} {count}" for kind, count in sorted(kinds.items())))
-
-
+WORDS = {"room": "no cell is left", "character": " has no ", "letter": "in mosaic mode", "mosaic": "outside mosaic mode", "tag": ""}
 OPTIONS = "english german swedish italian french spanish czech".split()
 
 
@@ -264,8 +235,7 @@ def some_page(rng, file, number, due, service):
         why, what = width_codes(text, option, width)
         if why == "ok":
             return what
-        words = {"room": "no cell is left", "character": " has no ", "letter": "in mosaic mode", "mosaic": "outside mosaic mode", "tag": ""}[why]
-        due.append((file.at(places[what]), words))
+        due.append((file.at(places[what]), WORDS[why]))
         return None
 
     if rng.random() < 0.7:
@@ -318,66 +288,132 @@ def some_page(rng, file, number, due, service):
     service["page"].append(page)
 
 
-def write_texts(folder):
-    import json
-    rng = random.Random(4949)
-    for case in range(300):
-        file, due = File(), []
-        file.add(f"author = 1\nlines = {rng.randrange(1, 33)}\nserial = true\n")
-        service = {"lines": int(file.text.split("lines = ")[1].split()[0]), "serial": True, "page": []}
-        if rng.random() < 0.4:
-            file.add('[info]\nnetwork = "12F4"\nmjd = 46000\nutc = 123045\ntext = ')
-            text = good_text(rng, 0, 20)
-            places = file.value(rng, text)
-            why, what = width_codes(text, 0, 20)
-            words = {"room": "no cell is left", "character": " has no ", "letter": "in mosaic mode", "mosaic": "outside mosaic mode", "tag": ""}
-            if why != "ok":
-                due.append((file.at(places[what]), words[why]))
-            service["info"] = {"network": "12F4", "mjd": 46000, "utc": 123045, "text": what}
-            file.add("\n")
-        for number in range(100, 100 + rng.randrange(1, 6)):
-            some_page(rng, file, number, due, service)
-        with open(f"{folder}/{case:03}.toml", "w", encoding="utf-8", newline="\n") as out:
-            out.write(file.text)
-        with open(f"{folder}/{case:03}.due", "w", encoding="utf-8") as out:
-            json.dump({"due": due, "service": service}, out)
+def random_file(rng):
+    """An author's text, the mistakes that are due, and the service."""
+    file, due = File(), []
+    file.add(f"author = 1\nlines = {rng.randrange(1, 33)}\nserial = true\n")
+    service = {"lines": int(file.text.split("lines = ")[1].split()[0]), "serial": True, "page": []}
+    if rng.random() < 0.4:
+        file.add('[info]\nnetwork = "12F4"\nmjd = 46000\nutc = 123045\ntext = ')
+        text = good_text(rng, 0, 20)
+        places = file.value(rng, text)
+        why, what = width_codes(text, 0, 20)
+        if why != "ok":
+            due.append((file.at(places[what]), WORDS[why]))
+        service["info"] = {"network": "12F4", "mjd": 46000, "utc": 123045, "text": what}
+        file.add("\n")
+    for number in range(100, 100 + rng.randrange(1, 6)):
+        some_page(rng, file, number, due, service)
+    return file.text, due, service
 
 
-def compare_texts(folder):
-    import json
-    import tomllib
-    kinds = {"composed": 0, "refused": 0, "mistakes": 0}
-    for case in range(300):
-        name = f"{folder}/{case:03}.toml"
-        wanted = json.load(open(f"{folder}/{case:03}.due", encoding="utf-8"))
-        told = open(name + ".out", encoding="utf-8", newline="\n").read()
-        if wanted["due"]:
-            lines = told.split("\n")[:-1]
-            count = len(wanted["due"])
-            assert lines[-1] == f"{count} mistake" + "s" * (count != 1), (name, lines, wanted["due"])
-            for line, (at, words) in zip(lines, wanted["due"], strict=False):
-                assert line.startswith(f"{name}:{at}: error: ") and words in line, (line, at, words)
-            assert len(lines) == count + 1, (name, lines)
-            kinds["refused"] += 1
-            kinds["mistakes"] += count
-        else:
-            assert told.startswith("# Composed from "), (name, told)
-            assert tomllib.loads(told) == wanted["service"], (name, tomllib.loads(told), wanted["service"])
-            pages = told.split("[[page]]")
-            for number, before in enumerate(pages[:-1], 100):
-                assert before.endswith(f"# page {number}\n"), (name, before)
-            kinds["composed"] += 1
-    print("authors' texts:", ", ".join(f"{kind} {count}" for kind, count in kinds.items()))
+def run(program, *words):
+    return subprocess.run([program, *words], capture_output=True, encoding="utf-8", timeout=120)
+
+
+def save(name, text):
+    with open(name, "w", encoding="utf-8", newline="\n") as out:
+        out.write(text)
+
+
+def read(name):
+    with open(name, encoding="utf-8", newline="\n") as text:
+        return text.read()
+
+
+def composed(program, author, out):
+    """The service text of an author's text without mistakes."""
+    ran = run(program, "compose", author, out)
+    assert ran.returncode == 0 and not ran.stderr, (read(author), ran)
+    text = read(out)
+    service = tomllib.loads(text)
+    assert ran.stdout == f"composed {len(service.get('page', []))} pages\n", (ran.stdout, text)
+    return text, service
+
+
+def check_back(program, service_text, service):
+    """Decomposed and composed again, a service text is the same service."""
+    ran = run(program, "decompose", service_text, "back.toml")
+    assert ran.returncode == 0 and ran.stdout == f"decomposed {len(service['page'])} pages\n", (read(service_text), ran)
+    assert composed(program, "back.toml", "again.toml")[1] == service, (read(service_text), read("back.toml"))
+
+
+def check_text(program, rng, kinds):
+    text, due, service = random_file(rng)
+    save("desk.toml", text)
+    if not due:
+        told, read_service = composed(program, "desk.toml", "out.toml")
+        assert told.startswith("# Composed from desk.toml "), told
+        assert read_service == service, (text, told)
+        # the comment before each page is kept
+        for number, before in enumerate(told.split("[[page]]")[:-1], 100):
+            assert before.endswith(f"# page {number}\n"), before
+        check_back(program, "out.toml", service)
+        kinds["composed"] += 1
+        return
+    ran = run(program, "compose", "desk.toml", "out.toml")
+    lines = ran.stdout.split("\n")[:-1]
+    count = len(due)
+    assert ran.returncode == 1 and not ran.stderr and read("out.toml") == "", (text, ran)
+    assert lines.pop() == f"{count} mistake" + "s" * (count != 1), (text, lines, due)
+    assert len(lines) == min(count, 100), (text, lines)
+    for line, (at, words) in zip(lines, due):
+        assert line.startswith(f"desk.toml:{at}: error: ") and words in line, (text, line, at, words)
+    kinds["refused"] += 1
+    kinds["mistakes"] += count
+
+
+def check_row(program, option, text, kinds):
+    """A row that is composed has these codes; otherwise its first mistake has its column, which counts from 1 behind five characters."""
+    body = text.replace("\\", "\\\\").replace('"', '\\"')
+    save("row.toml", f'author = 1\nlines = 2\nserial = true\n[[page]]\nnumber = "100"\noption = {option}\n[page.rows]\n1 = "{body}"\n')
+    wanted = codes(text, option)
+    if wanted.startswith("ok "):
+        row = composed(program, "row.toml", "out.toml")[1]["page"][0]["rows"]["1"]
+        assert row.encode("ascii").ljust(40).hex() == wanted[3:], (text, option, row, wanted)
+        kinds["rows"] += 1
+    else:
+        _, place, why = wanted.split()
+        column = 6 + len(text[:int(place)].replace("\\", "\\\\").replace('"', '\\"'))
+        ran = run(program, "compose", "row.toml", "out.toml")
+        assert ran.returncode == 1 and ran.stdout.startswith(f"row.toml:8:{column}: error: ") and WORDS[why] in ran.stdout, (text, option, ran, wanted)
+        kinds["rows refused"] += 1
+
+
+def check_codes(program, rng):
+    """Rows of any codes, decomposed, are what the model reads as these codes."""
+    weights = [rng.random() < 0.6 for _ in range(40)]
+    row = [rng.choice([10, 11, 1, 0x11, rng.randrange(32)]) if not w else rng.choice([0x20, rng.randrange(0x20, 0x80)]) for w in weights]
+    row = bytes(row[: rng.randrange(1, 41)])
+    option = rng.randrange(8)
+    quoted = "".join(f"\\u{code:04X}" for code in row)
+    save("codes.toml", f'lines = 2\nserial = true\n[[page]]\nnumber = "100"\noption = {option}\n[page.rows]\n1 = "{quoted}"\n')
+    ran = run(program, "decompose", "codes.toml", "back.toml")
+    assert ran.returncode == 0 and ran.stdout == "decomposed 1 pages\n", (row, ran)
+    text = tomllib.loads(read("back.toml"))["page"][0]["rows"]["1"]
+    assert codes(text, option) == "ok " + row.ljust(40).hex(), (row, option, text)
+    assert composed(program, "back.toml", "again.toml")[1]["page"][0]["rows"]["1"].encode("ascii") == row, (row, text)
+
+
+def main():
+    program = os.path.abspath(sys.argv[1])
+    kinds = dict.fromkeys(["composed", "refused", "mistakes", "rows", "rows refused"], 0)
+    with tempfile.TemporaryDirectory() as folder:
+        os.chdir(folder)
+        rng = random.Random(4949)
+        for _ in range(300):
+            check_text(program, rng, kinds)
+        rng = random.Random(49)
+        for case in range(300):
+            option, text = (some_text if case % 2 else mixed_text)(rng)
+            check_row(program, option, text, kinds)
+        for _ in range(300):
+            check_codes(program, rng)
+        os.chdir("/")
+    print("authors:", ", ".join(f"{count} {kind}" for kind, count in kinds.items()) + ", 300 rows of codes; none failed")
 
 
 if __name__ == "__main__":
-    if sys.argv[1:] == ["write"]:
-        write()
-    elif len(sys.argv) == 4 and sys.argv[1] == "compare":
-        compare(*sys.argv[2:])
-    elif len(sys.argv) == 3 and sys.argv[1] == "texts":
-        write_texts(sys.argv[2])
-    elif len(sys.argv) == 3 and sys.argv[1] == "composed":
-        compare_texts(sys.argv[2])
-    else:
+    if len(sys.argv) != 2:
         sys.exit(__doc__)
+    main()

@@ -275,6 +275,38 @@ def checked_services():
     }
 
 
+def authors_texts():
+    """Authors' texts: one that is composed, what is made of it and of that again, one with each mistake, and others."""
+    head = "lines = 2\nserial = true\n"
+    page = '[[page]]\nnumber = "100"\n'
+    info = '[info]\nmjd = 46000\nnetwork = "12F4"\ntext = "{}"\nutc = 1\n'
+    desk = "author = 1\n" + head + info.format("Tides £5") + "\n# The caf\u00e9,\n# twice a day.\n" + page
+    desk += 'option = "french"\nhead = "Caf\u00e9 du Port"\n[page.rows]\n'
+    desk += 'text = """\n{red}Cr\u00eape\n\n{mosaic cyan}\U0001fb02\u258c\u2588 A{cyan}\u00e0"""\n8 = "{box}On{/box}"\n'
+    rows = 'option = 4\n\n[page.rows]\n1 = "\\u0001Cr\\\\pe"\n3 = "\\u0016#5\\u007F A\\u0006@"\n8 = "\\u000B\\u000BOn\\u000A\\u000A"\n'
+    composed = "# Composed from desk.toml by ttx compose: change that text, and compose it again.\n" + head + "\n" + info.format("Tides #5")
+    composed += "\n# The caf\u00e9,\n# twice a day.\n" + page + 'head = "Caf# du Port"\n' + rows
+    back = "# Decomposed from desk-composed.toml by ttx decompose.\nauthor = 1\n" + head + "\n" + info.format("Tides £5") + "\n" + page
+    back += 'head = "Caf\u00e9 du Port"\noption = "french"\n\n[page.rows]\n1 = "{red}Cr\u00eape"\n'
+    back += '3 = "{mosaic cyan}\U0001fb02\u258c\u2588 A{cyan}\u00e0"\n8 = "{box}On{/box}"\n'
+    return {
+        "desk.toml": desk,
+        "desk-decomposed.toml": back,
+        "desk-composed.toml": composed,
+        "desk-mistakes.toml": "author = 1\n" + head + info.format("Tides, ferries, weather") + page + 'head = "{rde}Tides"\n[page.rows]\n'
+        + 'text = """\nCaf\u00e9 \u2603\n\n{red\na\\tb\n{{\nab\U0001fb02\n{mosaic red}\u2588x\n' + "A" * 41 + "\nB\n" + "\n" * 15 + 'C\n"""\n9 = "D"\n'
+        + page.replace("100", "101") + 'option = "frensh"\n' + page.replace("100", "102") + 'option = 7\nhead = "\u00e9"\n',
+        "desk-not-toml.toml": "author = 1\n" + head + page + 'head = "Tides\n',
+        "desk-again.toml": "author = 1\n" + head + page + page,
+        "desk-marked.toml": "author = 2\n" + head + page,
+        "desk-not-first.toml": head + "author = 1\n" + page + 'head = "\u00e9"\n',
+        "desk-tables.toml": head + page + 'head = "Tides"\n[page.desk]\nby = "Ann"\n',
+        "desk-tables-decomposed.toml": "# Decomposed from desk-tables.toml by ttx decompose.\nauthor = 1\n" + head
+        + '\n[[page]]\nhead = "Tides"\nnumber = "100"\n\n[page.desk]\nby = "Ann"\n',
+        "menu.toml": "author = 1\n" + head + page + '[page.rows]\ntext = """\n{white}Caf\u00e9 du Port\n{rde}Menu\nCod and chips \U0001fb02"""\n',
+    }
+
+
 def certificate(deadline, repeat=1, rows=range(1, 24), more=None, at=(0,)):
     """A certificate for blank pages whose headers are sent in these slots, a field before their rows."""
 
@@ -508,6 +540,7 @@ def main():
     for name, slots in files.items():
         (folder / name).write_bytes(b"".join(slots))
     (folder / "83-bytes").write_bytes(b"".join(base())[:83])
+    (folder / "desk-not-utf-8.toml").write_bytes(b"author = 1\nlines = 2\n# caf\xe9\n")
     texts = {
         "base.toml": 'lines = 2\nserial = true\n[[page]]\nnumber = "100"\n',
         "preview.toml": PREVIEW,
@@ -538,7 +571,7 @@ def main():
         "slots-052.counter": counter(1, 52, 26, 23).replace("slots 52", "slots 052"),
         "slots-51.counter": counter(1, 51, 26, 23),
         "clearing.cert": "ttx certificate 2\nclass clearing\nlines 2\nrepeat 1\ndeadline 2\n100/0000 head 0\n",
-    } | services() | refused_services() | checked_services() | certifying_texts() | splicing_texts() | extracted_texts() | missed()
+    } | services() | refused_services() | checked_services() | authors_texts() | certifying_texts() | splicing_texts() | extracted_texts() | missed()
     for name, text in texts.items():
         (folder / name).write_text(text)
     subpages = [sub for sub in range(0x3F7F) if sub & ~0x3F7F == 0][:1214]

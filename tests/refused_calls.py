@@ -53,6 +53,8 @@ COMMANDS = [
     ("monitor small.t42 small.toml small.cert small.t42", False),
     ("pages small.t42", False),
     ("extract small.t42 out --lines 2", False),
+    ("compose desk.toml out", False),
+    ("decompose small.toml out", False),
     ("check small.toml", False),
     ("version", False),
     ("splice small.t42 small.t42 small.toml small.toml small.cert small.cert", False),
@@ -72,6 +74,8 @@ COMMANDS = [
     ("book small.t42 out", True),
     ("extract base.t42 out --lines 2", True),
     ("extract unlike.t42 out --lines 2", True),
+    ("compose desk-mistakes.toml out", True),
+    ("decompose desk-composed.toml out", True),
     ("check check-misspelt.toml", True),
     ("check check-row-of-47.toml", True),
     ("certify missing base.toml base.cert", True),
@@ -91,7 +95,8 @@ def make_inputs(folder):
     }
     for name, source in taken.items():
         shutil.copy(data / source, folder / name)
-    for name in ("base.t42", "base.toml", "base.cert", "often-3.toml", "base-26.counter", "check-misspelt.toml", "check-row-of-47.toml"):
+    for name in ("base.t42", "base.toml", "base.cert", "often-3.toml", "base-26.counter", "check-misspelt.toml", "check-row-of-47.toml",
+                 "desk.toml", "desk-composed.toml", "desk-mistakes.toml"):
         shutil.copy(data / name, folder)
     shutil.copy(TOP / "examples/broadcast.toml", folder)
     head = "lines 2\nrepeat 1\ndeadline"

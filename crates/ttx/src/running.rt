@@ -3,6 +3,7 @@
 mod certificates;
 mod counter_runs;
 mod cycles;
+mod desks;
 mod feeds;
 mod inputs;
 mod screens;
@@ -60,8 +61,8 @@ pub fn run_order(rt: &HostRuntime, order: &Order<'_>) -> Outcome {
         Order::Send(order) => sends::send(rt, order),
         Order::Air(_) => Ok(not_built(rt)),
         Order::Report(_) => Ok(not_built(rt)),
-        Order::Compose { .. } => Ok(not_built(rt)),
-        Order::Decompose { .. } => Ok(not_built(rt)),
+        Order::Compose { author, out } => desks::compose(rt, author, out),
+        Order::Decompose { service, out } => desks::decompose(rt, service, out),
         Order::Explain { reason } => Ok(status_of(rt, explain(rt, reason))),
         Order::Monitor(order) => feeds::monitor(rt, order),
         Order::Pages { cycle, json } => cycles::pages(rt, cycle, *json),

@@ -317,12 +317,15 @@ form FORM:
 The header clock and columns 0 to 7 of row 0 are spaces. Concealed characters
 are spaces without --reveal. If the service has no such page, writes:
 no page PAGE
+SERVICE may be an author's text (see compose), if its first key is author = 1.
+Its mistakes have the lines of compose.
 
 Statuses:
   0  done
   1  the service has no such page
-  2  error: .. (the arguments), refused: page,
-     refused: service NUMBER NAME [KEY] page N, refused: service too-long
+  2  the author's text has mistakes; also error: .. (the arguments),
+     refused: page, refused: service NUMBER NAME [KEY] page N and
+     refused: service too-long on standard error
   3  fault: file, fault: read, fault: write, fault: memory";
 
 /// The whole help of `splice`.
@@ -816,15 +819,21 @@ pub(crate) const AIR_LOG_OPTION: &str = "File to write the log to, too; created 
 
 pub(crate) const COMPOSE_MORE: &str =
     "Reads AUTHOR to its end. Writes the service definition that it stands for to
-OUT. An author's text is a service definition in which each character stands for
-what the viewer sees, and names in braces are control codes, as in {red}. If the
-text has mistakes, each has a line with its place, and OUT stays empty.
+OUT, and then to standard output (to standard error if OUT is -):
+composed N pages
+An author's text is a service definition in which each character stands for what
+the viewer sees, and names in braces are control codes, as in {red}. OUT begins
+with a comment that names AUTHOR; comments before a page are kept. If the text
+has mistakes, OUT stays empty, and each of the first 100 has a line in place of
+the one above, with lines and columns from 1; then comes their number:
+FILE:LINE:COLUMN: error: ..
+N mistakes
 
 Statuses:
   0  composed
   1  the text has mistakes
   2  error: .. (the arguments), refused: same (OUT is AUTHOR),
-     refused: service too-long
+     refused: service NUMBER NAME [KEY] page N, refused: service too-long
   3  fault: file, fault: read, fault: write, fault: memory";
 
 pub(crate) const AUTHOR_OPERAND: &str = "Author's text: a TOML text of at most 4194304 bytes;
@@ -835,11 +844,14 @@ pub(crate) const COMPOSED_OPERAND: &str =
 - is standard output";
 
 pub(crate) const DECOMPOSE_MORE: &str =
-    "Reads SERVICE to its end. Writes the author's text that stands for it to OUT:
-compose makes the same service of it again.
+    "Reads SERVICE to its end. Writes the author's text that stands for it to OUT,
+and then to standard output (to standard error if OUT is -):
+decomposed N pages
+compose makes the same service of it again. Comments are left out.
 
 Statuses:
   0  done
+  1  there is no author's text, as of a service with the key author
   2  error: .. (the arguments), refused: same (OUT is SERVICE),
      refused: service NUMBER NAME [KEY] page N, refused: service too-long
   3  fault: file, fault: read, fault: write, fault: memory";

@@ -28,3 +28,4 @@ pub mod Send
 pub mod Beginnings
 pub mod Version
 pub mod Explain
+pub mod Standing

@@ -1,6 +1,7 @@
 //! The commands that show a page: `receive`, `show`, `preview`.
 
 use super::Outcome;
+use super::desks::standing;
 use super::inputs::{buffered, recorded};
 use crate::devices::{Input, open_input};
 use crate::reports::{diagnosed, report, status_of};
@@ -10,6 +11,7 @@ use ttx_arguments::{Look, Tuning};
 use ttx_cycle::Counted;
 use ttx_page::Selection;
 use ttx_recognition::Recorded;
+use ttx_tool::commands::standing::Standing;
 use ttx_tool::{ToolFault, commands};
 
 fn show_input(
@@ -47,18 +49,23 @@ pub fn receive(rt: &HostRuntime, cycle: &str, tuning: &Tuning) -> Outcome {
 fn preview_input(
     rt: &HostRuntime,
     input: Input,
+    name: &str,
     selection: &Selection,
     look: &Look<'_>,
 ) -> Result<u8, ToolFault> {
-    let mut reader = buffered(rt, input)?;
+    let standing = standing(rt, input, name)?;
     let mut writer = Counted::new(io::writer(rt));
-    commands::preview::run(rt.alloc(), &mut reader, selection, look, &mut writer)
+    match standing {
+        Standing::Text(text) => {
+            let mut reader = Counted::new(text.as_slice());
+            commands::preview::run(rt.alloc(), &mut reader, selection, look, &mut writer)
+        }
+        Standing::Lines(lines) => commands::standing::refuse(&mut writer, lines.as_str()),
+    }
 }
 
-/// Opens the service, and shows a page of it before it is sent.
+/// Opens the service, or an author's text that stands for it, and shows a page of it before it is sent.
 pub fn preview(rt: &HostRuntime, service: &str, selection: &Selection, look: &Look<'_>) -> Outcome {
-    Ok(status_of(
-        rt,
-        preview_input(rt, open_input(rt, service)?, selection, look),
-    ))
+    let input = open_input(rt, service)?;
+    Ok(status_of(rt, preview_input(rt, input, service, selection, look)))
 }

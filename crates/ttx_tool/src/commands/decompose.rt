@@ -1,0 +1,40 @@
+//! `decompose`: the author's text of a service text.
+
+ghost use Rattle.std.specs.Prelude.{◌∷◌, [], None, IfSome};
+ghost use Rattle.ttx_author_files.specs.Decomposing.{DecomposesFile};
+ghost use Rattle.ttx_cycle.specs.Counters.{inner_of, faults_of};
+ghost use Rattle.ttx_files.specs.Answers.{IsUntouched};
+ghost use Rattle.ttx_files.specs.Devices.{AtService, input, output};
+ghost use Rattle.ttx_tool.specs.Answers.{IsAnswered};
+ghost use Rattle.ttx_tool.specs.Devices.{is_tool_write, Fails};
+
+use crate::faults::ToolFault;
+use std::alloc::Global;
+use std::io::{Read, Write};
+use ttx_author_files::decompose_file;
+use ttx_cycle::Counted;
+
+/// Reads the text of a service with this name, of at most 4,194,304 bytes, and writes the author's text of it; then the number of its
+/// pages to the other writer: the status is 0.
+///
+/// Nothing is written before the author's text is read again. At `Write` exactly the first `written` bytes of both went out, the
+/// file's before the line's; at each other fault both writers are as they were.
+pub fn run<R: Read, O: Write, W: Write>(
+    alloc: Global,
+    name: &str,
+    reader: &mut Counted<R>,
+    file: &mut Counted<O>,
+    writer: &mut Counted<W>,
+) -> Result<u8, ToolFault>
+    ensures bytes { IsAnswered (λ status. status) (λ answer. IfSome (R.remaining (inner_of reader.old)) (λ bytes. DecomposesFile name.now bytes
+        (O.contents (inner_of file.old)) (O.contents (inner_of file.new)) (W.contents (inner_of writer.old)) (W.contents (inner_of writer.new))
+        answer)) result }
+    ensures faults { Fails (input AtService None (faults_of reader.old) (faults_of reader.new)
+        ∷ output (faults_of file.old) (faults_of file.new) ∷ output (faults_of writer.old) (faults_of writer.new) ∷ []) result }
+    ensures untouched { IsUntouched is_tool_write result file.old file.new × IsUntouched is_tool_write result writer.old writer.new }
+{
+    match decompose_file(alloc, name, reader, file, writer) {
+        Ok(status) => Ok(status),
+        Err(fault) => Err(ToolFault::Files(fault)),
+    }
+}
