@@ -1,5 +1,5 @@
 -- A feed that is followed by one slot more.
-use Rattle.std.proofs.Common.{◌≡◌, ◌⊎◌, ℕ, ◌+◌, ◌-◌, ◌^◌, ◌<◌, ◌≤◌, min, Bool, true, false, if◌then◌else◌, ◌||◌, ◌&&◌, not, List, [], ◌∷◌, ◌++◌, length, take, Option, Some, None, Err, refl, sym, ap, ◌∙◌, subst, inl, inr, arith}
+use Rattle.std.proofs.Common.{◌≡◌, ℕ, ◌+◌, ◌-◌, ◌^◌, ◌<◌, min, Bool, true, false, if◌then◌else◌, ◌||◌, ◌&&◌, not, List, [], ◌∷◌, ◌++◌, length, take, Option, Some, None, Err, refl, sym, ap, ◌∙◌, subst, arith}
 use Rattle.std.proofs.Common.{append_assoc, append-nil}
 use Rattle.std.specs.Option.{is_some}
 use Rattle.std.specs.Io.KnownBytes.{Appends, Keeps}
@@ -15,7 +15,7 @@ use Rattle.ttx_monitor.specs.Feeds.{HearsAll}
 use Rattle.ttx_monitor.specs.Stepping.{IsNext}
 use Rattle.ttx_monitor.specs.Tallies.{nothing_yet, added, tally_of, is_bad, bad_of, is_last}
 use Rattle.ttx_monitor.specs.EventLines.{Telling, event_text, told_text}
-use Rattle.ttx_monitor.specs.Followed.{WritesEvent, CountsFollowed, IsEnd, IsClean, IsFollowed, IsStopped, IsUnwritten, IsCutOff, Follows}
+use Rattle.ttx_monitor.specs.Followed.{WritesEvent, CountsFollowed, IsEnd, IsFollowed, IsStopped, IsUnwritten, IsCutOff, Follows}
 use Rattle.ttx_monitor.specs.declared.ahead.Ahead.{Ahead}
 use Rattle.ttx_monitor.specs.declared.event.Event.{Event}
 use Rattle.ttx_monitor.specs.declared.following.Following.{Following}

@@ -7,10 +7,10 @@ mod FirstState
 mod CountedCells
 mod LongestStreaks
 mod WrongBytes
-mod HeardFeeds
+pub mod HeardFeeds
 mod HeardMore
 mod MisfitCounts
 mod WaitingSlots
-mod SteppedFeeds
+pub mod SteppedFeeds
 mod FollowedFeeds
 mod ReportedFeeds

@@ -1,6 +1,6 @@
 -- A feed that has been followed, and what is said of it.
-use Rattle.std.proofs.Common.{◌≡◌, ◌⊎◌, ℕ, ◌-◌, ◌^◌, ◌<◌, ◌≤◌, Bool, true, false, ◌||◌, List, [], ◌∷◌, ◌++◌, length, take, Option, Some, None, IfSome, Result, Ok, Err}
-use Rattle.std.proofs.Common.{refl, sym, ap, ◌∙◌, subst, inl, inr, arith}
+use Rattle.std.proofs.Common.{◌≡◌, ◌⊎◌, ℕ, ◌-◌, ◌^◌, ◌<◌, ◌≤◌, Bool, true, false, ◌||◌, List, [], ◌∷◌, ◌++◌, length, take, Option, Some, None, Ok, Err}
+use Rattle.std.proofs.Common.{refl, sym, ◌∙◌, subst, inl, inr, arith}
 use Rattle.std.specs.Option.{is_some}
 use Rattle.std.specs.Io.KnownBytes.{Appends, Keeps}
 use Rattle.std.proofs.KnownBytes.{Appends-trans, Appends-kept}
@@ -8,9 +8,9 @@ use Rattle.ttx_page.specs.Pages.{Page}
 use Rattle.ttx_witness.specs.Coverage.{Certificate}
 use Rattle.ttx_monitor.specs.Watching.{Watched, watched}
 use Rattle.ttx_monitor.specs.Events.{IsWalk}
-use Rattle.ttx_monitor.specs.Feeds.{IsWhole, IsEnding, HearsAll}
+use Rattle.ttx_monitor.specs.Feeds.{IsWhole, HearsAll}
 use Rattle.ttx_monitor.specs.FeedVerdicts.{start_of, IsVerdictOf}
-use Rattle.ttx_monitor.specs.Tallies.{nothing_yet, tally_of, is_bad}
+use Rattle.ttx_monitor.specs.Tallies.{nothing_yet}
 use Rattle.ttx_monitor.specs.EventLines.{Telling, told_text}
 use Rattle.ttx_monitor.specs.Followed.{IsEnd, IsFollowed, IsCutOff, Follows}
 use Rattle.ttx_monitor.specs.FeedReports.{IsEnded, rest_of, IsReport, ReportsFrom}
@@ -23,7 +23,6 @@ use Rattle.ttx_monitor.specs.declared.following.Following.{Following}
 use Rattle.ttx_monitor.specs.declared.following.Followed.{Followed}
 use Rattle.ttx_monitor.specs.declared.following.Followed.TheVariants.{End, Stopped}
 use Rattle.ttx_monitor.specs.declared.hearing.Heard.{Heard}
-use Rattle.ttx_monitor.specs.declared.hearing.Heard.TheVariants as heard
 use Rattle.ttx_monitor.specs.declared.verdict.FeedVerdict.{FeedVerdict}
 
 all_true : (all : Bool) → (all ≡ false → ⊥) → all ≡ true

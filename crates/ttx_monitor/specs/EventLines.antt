@@ -8,7 +8,7 @@
 --   no_text, breaches_text, broken_text     the line of a feed that breaks the rule
 --   a_minute                a count of a feed of so many slots, for 3,000 fields
 --   all_text, minute_text, total_text       the last line, with what happens in a minute
-use Rattle.std.specs.Prelude.{◌≡◌, ℕ, ◌+◌, ◌*◌, ◌/◌, ◌%◌, ◌-◌, ◌^◌, min, max, Bool, true, false, ◌==◌, if◌then◌else◌, List, [], ◌∷◌, ◌++◌, codes, Option, Some, None}
+use Rattle.std.specs.Prelude.{ℕ, ◌*◌, ◌/◌, ◌%◌, ◌-◌, ◌^◌, min, max, Bool, false, ◌==◌, if◌then◌else◌, List, [], ◌∷◌, ◌++◌, codes, Option, Some, None}
 use Rattle.std.specs.Fmt.{decimal}
 use Rattle.ttx_page.specs.Pages.{Page}
 use Rattle.ttx_monitor.specs.FeedLines.{way_text, shifted_text}

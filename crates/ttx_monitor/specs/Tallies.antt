@@ -5,7 +5,7 @@
 --   is_bad, bad_of          a slot that breaks the rule, or at which the feed has slipped; 1 for it
 --   is_last                 such a slot ends the hearing, where not each one is told
 --   nothing_yet, added, tally_of    before the first slot; after one more; after several
-use Rattle.std.specs.Prelude.{◌≡◌, ℕ, ◌+◌, ◌-◌, ◌^◌, min, max, Bool, true, ◌||◌, ◌&&◌, not, if◌then◌else◌, List, [], ◌∷◌, Option, Some, None, is_some}
+use Rattle.std.specs.Prelude.{ℕ, ◌+◌, ◌-◌, ◌^◌, min, max, Bool, ◌||◌, ◌&&◌, not, if◌then◌else◌, List, [], ◌∷◌, Option, Some, is_some}
 use Rattle.ttx_monitor.specs.declared.breach.Breach.{Breach}
 use Rattle.ttx_monitor.specs.declared.breach.Breach.TheVariants.{Lost}
 use Rattle.ttx_monitor.specs.declared.event.Event.{Event}

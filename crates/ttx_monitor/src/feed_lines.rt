@@ -12,8 +12,8 @@ use ttx_page::Page;
 use ttx_recognition::push_unlike;
 use ttx_witness::NoMemory;
 
-// Appends where the feed begins, and the end of the line.
-fn push_start(text: &mut String, start: u32) -> Result<(), AllocError>
+/// Appends where the feed begins, and the end of the line.
+pub fn push_start(text: &mut String, start: u32) -> Result<(), AllocError>
     ensures { OnOk result (string_bytes text.new ≡ string_bytes text.old ++ start_text start) }
 {
     write!(text, " start {start}\n")
@@ -45,8 +45,8 @@ fn push_yes(
     )
 }
 
-// Appends the id of a page of the list.
-fn push_page(text: &mut String, pages: &[Page], index: u32) -> Result<(), AllocError>
+/// Appends the id of a page of the list.
+pub fn push_page(text: &mut String, pages: &[Page], index: u32) -> Result<(), AllocError>
     ensures { OnOk result (string_bytes text.new ≡ string_bytes text.old ++ page_text (map page_of pages.now) index) }
 {
     match pages.get(index as usize) {
@@ -55,8 +55,8 @@ fn push_page(text: &mut String, pages: &[Page], index: u32) -> Result<(), AllocE
     }
 }
 
-// Appends a row.
-fn push_row(text: &mut String, row: u8) -> Result<(), AllocError>
+/// Appends a row.
+pub fn push_row(text: &mut String, row: u8) -> Result<(), AllocError>
     ensures { OnOk result (string_bytes text.new ≡ string_bytes text.old ++ row_text row) }
 {
     match row {

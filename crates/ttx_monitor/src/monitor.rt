@@ -1,8 +1,10 @@
 //! Monitors: whether a feed of received slots stays within the error rule for each page of a service. No slot is stored.
 
-ghost use Rattle.std.specs.Prelude.{◌≡◌, ◌<◌, ℕ, length, slice_index_or, None, [], ◌+◌, ◌-◌, ◌%◌, ◌^◌, min};
+ghost use Rattle.std.specs.Prelude.{◌≡◌, ◌↔◌, ◌<◌, ◌≤◌, IsTrue, ℕ, length, slice_index_or, None, [], ◌+◌, ◌-◌, ◌%◌, ◌^◌, min};
 ghost use Rattle.ttx_packet.specs.Slots.{IsSlot};
 ghost use Rattle.ttx_cycle.specs.Cycles.{slots_of};
+ghost use Rattle.ttx_witness.specs.Certificates.{certificate_of};
+ghost use Rattle.ttx_witness.specs.Coverage.{limit as slots_to};
 ghost use Rattle.ttx_monitor.specs.Breaches.{first_told};
 
 use crate::breach::{Breach, TextByte};
@@ -74,6 +76,23 @@ fn added(count: u64, more: u8) -> u64
     ensures { result ≡ min (count + more) (2 ^ 64 - 1) }
 {
     count.saturating_add(u64::from(more))
+}
+
+// The place so many slots on in a cycle of `count` slots.
+fn place_on(at: usize, by: usize, count: usize) -> usize
+    requires some { 1 ≤ count }
+    requires few { count ≤ 65536 }
+    ensures { at < count → by < count → result ≡ (at + by) % count }
+{
+    at.saturating_add(by) % count
+}
+
+// Whether so many slots reach the deadline of a certificate.
+fn reaches(certificate: &Certificate, count: u64) -> bool
+    ensures exact { IsTrue result ↔ (slots_to (certificate_of certificate.now) ≤ count) }
+    ensures few { slots_to (certificate_of certificate.now) < 2 ^ 64 }
+{
+    u64::from(limit(certificate)) <= count
 }
 
 // How a slot breaks the rule: by itself; otherwise by the byte that has now been wrong too often.
@@ -208,7 +227,7 @@ impl<'a> Monitor<'a> {
             Stands self.new (moved w (length feed) (Some by)) [] }
     {
         let count = self.cycle.slots().len();
-        self.at = self.at.saturating_add(by) % count;
+        self.at = place_on(self.at, by, count);
         clear_all(&mut self.cells);
         self.within = true;
         self.longest = 0;
@@ -279,6 +298,6 @@ impl<'a> Monitor<'a> {
         if !self.within() {
             return false;
         }
-        u64::from(limit(certificate)) <= self.count
+        reaches(certificate, self.count)
     }
 }

@@ -26,8 +26,8 @@ pub enum Step {
     End { rest: usize },
 }
 
-// By how many slots the feed has slipped at its next slot, if that cannot have been received and if it has. The monitor is moved.
-fn shift_at<R: Read>(
+/// By how many slots the feed has slipped at its next slot, if that cannot have been received and if it has. The monitor is moved.
+pub fn shift_at<R: Read>(
     monitor: &mut Monitor<'_>,
     ahead: &mut Ahead,
     feed: &mut Counted<R>,

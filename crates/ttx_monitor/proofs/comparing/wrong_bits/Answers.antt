@@ -1,35 +1,26 @@
-use Rattle.std.proofs.Common.{◌≡◌, ℕ, ◌||◌, Bool, true, false, if◌then◌else◌, refl, sym, ◌∙◌, arith}
+use Rattle.std.proofs.Common.{◌≡◌, ℕ, ◌||◌, not, Bool, true, false, if◌then◌else◌, refl, sym, ◌∙◌, arith}
 use lib.Pointwise.{bytes_decides}
 use Rattle.ttx_packet.specs.Slots.{is_empty, kind_of}
 use Rattle.ttx_monitor.specs.Totals.{compared_bytes, wrong_bits_at}
 use Rattle.ttx_monitor.proofs.WrongBytes.{no_bits_in, first_sum, next_sum}
 use Rattle.ttx_monitor.proofs.comparing.wrong_bits.Goals as goal
-use Rattle.ttx_monitor.proofs.comparing.wrong_bits.Goals.{then-eq-via-then-eq, then-eq-via-else-eq+then-is_blank, then-eq-via-else-eq+else-is_blank+then-is_blank-2}
 
 unsummed : (b : Bool) (n : ℕ) → n ≡ 0 → 0 ≡ (if b then 0 else n)
 unsummed true n e = refl
 unsummed false n e = sym e
 
-blank : (a b : Bool) (n : ℕ) → a ≡ true → 0 ≡ (if a || b then 0 else n)
-blank true b n e = refl
-blank false b n e = cc
-
-other : (a b : Bool) (n : ℕ) → b ≡ true → 0 ≡ (if a || b then 0 else n)
-other true b n e = refl
-other false true n e = refl
-other false false n e = cc
+uncounted : (b : Bool) (n : ℕ) → not b ≡ false → 0 ≡ (if b then 0 else n)
+uncounted true n e = refl
+uncounted false n e = cc
 
 pub returns-then-eq : goal.returns-then-eq
 returns-then-eq c =
     let s = c.args.sent.now in
     let r = c.args.received.now in
-    elim c.then-eq.branch [
-      | then-eq-via-then-eq w ↦ unsummed (is_empty s || is_empty r) _
-          (no_bits_in s r ((bytes_decides r s).0 (sym w.if-eq.ensures)) (compared_bytes (kind_of s)))
-      | then-eq-via-else-eq+then-is_blank w ↦ blank (is_empty s) (is_empty r) _ (sym w.is_blank.ensures ∙ w.if-is_blank.true)
-      | then-eq-via-else-eq+else-is_blank+then-is_blank-2 w ↦
-          other (is_empty s) (is_empty r) _ (sym w.is_blank-else-is_blank.ensures ∙ w.if-is_blank-2.true)
-    ]
+    unsummed (is_empty s || is_empty r) _ (no_bits_in s r ((bytes_decides r s).0 (sym c.if-eq.ensures)) (compared_bytes (kind_of s)))
+
+pub returns-then-not-has_bits : goal.returns-then-not-has_bits
+returns-then-not-has_bits c = uncounted (is_empty c.args.sent.now || is_empty c.args.received.now) _ (sym c.has_bits.ensures ∙ c.if-not-has_bits.true)
 
 pub loop-x-init : goal.loop-x-init
 loop-x-init c = record { few = omega arith; summed = sym (first_sum (wrong_bits_at c.args.sent.now c.args.received.now)) }

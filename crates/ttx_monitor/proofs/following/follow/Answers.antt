@@ -1,4 +1,4 @@
-use Rattle.std.proofs.Common.{◌≡◌, ℕ, refl, inl, inr, sym, ◌∙◌, subst, arith}
+use Rattle.std.proofs.Common.{ℕ, refl, inl, inr, sym, ◌∙◌, subst, arith}
 use Rattle.std.proofs.KnownBytes.{Keeps-refl}
 use Rattle.ttx_cycle.specs.Counters.{inner_of, faults_of}
 use Rattle.ttx_monitor.specs.Stepping.{IsStep}

@@ -1,6 +1,4 @@
-use Rattle.std.proofs.Common.{Some, subst}
-use Rattle.ttx_monitor.specs.FeedReports.{IsEnded}
-use Rattle.ttx_monitor.proofs.ReportedFeeds.{said_some, said_none}
+use Rattle.ttx_monitor.proofs.ReportedFeeds.{said_some}
 use Rattle.ttx_monitor.proofs.report.verdict_at.Goals as goal
 
 pub returns-in-Some : goal.returns-in-Some

@@ -1,5 +1,4 @@
-use Rattle.std.proofs.Common.{◌≡◌, ℕ, ◌≤◌, length, min, subst, sym, ◌∙◌, arith}
-use Rattle.std.proofs.lemmas.Bool.{leb-true, le-leb}
+use Rattle.std.proofs.Common.{◌≡◌, ℕ, ◌≤◌, length, min, subst, arith}
 use Rattle.ttx_cycle.specs.Files.{IsCycle}
 use Rattle.ttx_cycle.specs.Cycles.{slots_of-IsCycle}
 use Rattle.ttx_witness.specs.Certificates.{certificate_of}
@@ -16,21 +15,16 @@ counted x n count big e small le = omega arith
 pub returns-clause-exact : goal.returns-clause-exact
 returns-clause-exact c = λ w feed st.
     let inside = c.within.ensures.within w feed st in
-    let cert = certificate_of c.args.certificate.now in
-    let same : c.from.result ≡ limit cert = c.from.ensures ∙ c.limit.ensures in (
-      (λ h. (
-        inside.0 c.if-not-within.false,
-        subst (λ z. z ≤ length feed) same (long c.from.result (length feed) c.args.self.now.count _ st.count (leb-true _ _ h)),
-      )),
-      (λ p. le-leb _ _ (counted c.from.result (length feed) c.args.self.now.count _ st.count (omega arith)
-          (subst (λ z. z ≤ length feed) (sym same) p.1))),
+    let reached = c.reaches.ensures in
+    let most = limit (certificate_of c.args.certificate.now) in (
+      (λ h. (inside.0 c.if-not-within.false, long most (length feed) c.args.self.now.count _ st.count (reached.exact.0 h))),
+      (λ p. reached.exact.1 (counted most (length feed) c.args.self.now.count _ st.count (let few = reached.few in omega arith) p.1)),
     )
 
 pub returns-clause-seen : goal.returns-clause-seen
 returns-clause-seen c = λ w feed st h pages repeat accepted.
     let inside = c.within.ensures.within w feed st in
     let cert = certificate_of c.args.certificate.now in
-    let same : c.from.result ≡ limit cert = c.from.ensures ∙ c.limit.ensures in
     c.within_is_seen.ensures w feed cert (subst IsCycle st.cycle (slots_of-IsCycle c.args.self.now.cycle.now)) pages
     (c.certificates_keep_their_rules.ensures c.args.certificate.now).1 repeat accepted (inside.0 c.if-not-within.false)
-    (subst (λ z. z ≤ length feed) same (long c.from.result (length feed) c.args.self.now.count _ st.count (leb-true _ _ h)))
+    (long (limit cert) (length feed) c.args.self.now.count _ st.count (c.reaches.ensures.exact.0 h))

@@ -19,9 +19,10 @@ returns c = λ w feed st lt.
     let size = ap length st.cycle in
     let cyc : 0 < n = subst (λ l. 0 < length l) st.cycle is_cycle.some in
     let inside : m.at < n = subst (λ z. z < n) (sym st.at) (mod_below (w.start + length feed) n cyc) in
-    let sum : c.saturating_add.result ≡ m.at + by = let s = c.saturating_add.ensures in omega arith in
-    let here : c.saturating_add.result % length c.slots-count.result.now ≡ v.start =
-    ap (λ l. c.saturating_add.result % length l) (c.slots-count.ensures.slots ∙ st.cycle) ∙ ap (λ z. z % n) sum ∙ ap (λ z. (z + by) % n) st.at in
+    let slots = c.slots-count.ensures.slots ∙ st.cycle in
+    let here : c.place_on-self.result ≡ v.start =
+    c.place_on-self.ensures (subst (λ l. m.at < length l) (sym slots) inside) (subst (λ l. by < length l) (sym slots) lt)
+    ∙ ap (λ l. (m.at + by) % length l) slots ∙ ap (λ z. (z + by) % n) st.at in
     let below : v.start < n = mod_below (place_of w (length feed) + by) n cyc in
     let plain : v.start + 0 ≡ v.start = omega arith in
     record {
