@@ -17,7 +17,7 @@ PREFIX = /usr/local
 JOBS = 4
 
 # scripts that run the built program, the longest first
-SCRIPTS = $(addprefix tests/, refused_calls.py refute.py memory.sh cases.py json_lines.py shipped.sh large.py planned.py waits.py spliced.py schedules.py sent.py monitored.py recognised.py \
+SCRIPTS = $(addprefix tests/, refused_calls.py refute.py memory.sh cases.py json_lines.py shipped.sh large.py planned.py aired.py waits.py spliced.py schedules.py sent.py monitored.py recognised.py \
 	spread.py pages.py checked.py packed.sh extracted.py authors.py documents.py refused_texts.py characters.py)
 
 .PHONY: all ttx try test demo bench edits compare helpers install dist $(SCRIPTS)
@@ -49,6 +49,7 @@ demo: ttx
 
 bench: ttx
 	sh bench/bench.sh ./ttx
+	python3 bench/air.py ./ttx
 
 edits:
 	python3 tools/edits.py --jobs $(JOBS)
@@ -56,6 +57,7 @@ edits:
 compare: ttx
 	python3 bench/late.py ./ttx
 	python3 bench/rows.py ./ttx
+	python3 bench/changed.py ./ttx
 
 helpers: ttx
 	python3 tools/helpers.py ./ttx out/helpers

@@ -111,3 +111,24 @@ echo "What can't be read is refused, with its place; and an author is told where
 run inspect 83-bytes
 run plan often-3.toml refused.t42
 run check often-3.toml
+echo "On the air, an author saves tomorrow's text, and the pages follow. Here the service is a pipe, with a text for each time that ttx looks."
+# puts a text where the service is looked for, once it is
+save() {
+    exec 3> service
+    mkfifo next
+    mv next service
+    cat "$1" >&3
+    exec 3>&-
+}
+mkfifo service
+{ save broadcast.toml; while :; do save tomorrow.toml; done; } &
+author=$!
+echo "\$ ttx air service --within 5 --at 61369/110000 --offset 2 --fields 375 > air.t42"
+"$program" air service --within 5 --at 61369/110000 --offset 2 --fields 375 2>&1 > air.t42 | cut -c 1-77
+kill $author
+wait $author 2> /dev/null
+echo
+echo "The forecast on a receiver that got the last two periods:"
+echo "\$ tail -c 126000 air.t42 > end.t42"
+tail -c 126000 air.t42 > end.t42
+look show end.t42 131 --lines 12

@@ -1,5 +1,6 @@
 //! Runs an order: opens what it names, and gives it to its command.
 
+mod airs;
 mod certificates;
 mod counter_runs;
 mod cycles;
@@ -59,7 +60,7 @@ pub fn run_order(rt: &HostRuntime, order: &Order<'_>) -> Outcome {
         Order::Splice(order) => splices::splice(rt, order),
         Order::Wait(order) => certificates::wait(rt, order),
         Order::Send(order) => sends::send(rt, order),
-        Order::Air(_) => Ok(not_built(rt)),
+        Order::Air(order) => airs::air(rt, order),
         Order::Report(_) => Ok(not_built(rt)),
         Order::Compose { author, out } => desks::compose(rt, author, out),
         Order::Decompose { service, out } => desks::decompose(rt, service, out),

@@ -2,6 +2,7 @@
 //!
 //! `run` of a module is its command. `certify` has `run_twice` beside it, for a cycle that is read twice.
 
+pub mod air;
 pub mod beginnings;
 pub mod book;
 pub mod certify;

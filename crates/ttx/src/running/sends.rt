@@ -2,17 +2,15 @@
 
 use super::Outcome;
 use super::inputs::buffered;
-use super::zones::{now_for, zones_with};
+use super::zones::{begin_ahead, begin_zoned, zones_with};
 use crate::devices::{Input, open_input};
 use crate::reports::{report, report_refusal, status_of};
-use jiff::tz::TimeZone;
 use std::io;
 use std::io::IsTerminal;
-use ttx_arguments::{Clock as AskedClock, Offset, SendOrder, Sending, Start};
+use ttx_arguments::{Clock as AskedClock, Offset, SendOrder, Sending};
 use ttx_cycle::Counted;
 use ttx_moment::ZoneClock;
-use ttx_send::{Clock, Moment};
-use ttx_tool::commands::beginnings;
+use ttx_send::Clock;
 use ttx_tool::{AirRefusal, ToolFault, commands};
 
 fn send_input<C: Clock>(
@@ -32,21 +30,11 @@ fn send_by<C: Clock>(rt: &HostRuntime, order: &SendOrder<'_>, clock: &C) -> Outc
     Ok(status_of(rt, send_input(rt, input, clock, &order.sending)))
 }
 
-// When a sending begins by a clock so many half hours ahead of UTC.
-fn begin_ahead(rt: &HostRuntime, start: &Start<'_>, offset: &Offset) -> Option<Moment> {
-    beginnings::ahead(start, now_for(rt, start)?, offset)
-}
-
 fn send_ahead(rt: &HostRuntime, order: &SendOrder<'_>, offset: &Offset) -> Outcome {
     match begin_ahead(rt, &order.timing.start, offset) {
         Some(start) => send_by(rt, order, &start),
         None => Ok(report_refusal(rt, AirRefusal::Time)),
     }
-}
-
-// When a sending begins by the clock of a zone.
-fn begin_zoned(rt: &HostRuntime, start: &Start<'_>, zone: &TimeZone<'_>) -> Option<Moment> {
-    beginnings::zoned(start, now_for(rt, start)?, zone)
 }
 
 // Sends by the rules of the time zone of this name.

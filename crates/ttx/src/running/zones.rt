@@ -1,13 +1,15 @@
 //! The rules of time zones, and the machine's clock.
 
 use jiff::Timestamp;
-use jiff::tz::TimeZoneDatabase;
+use jiff::tz::{TimeZone, TimeZoneDatabase};
 use std::fs::File;
 use std::{env, fs};
-use ttx_arguments::Start;
+use ttx_arguments::{Offset, Start};
 use ttx_cycle::{Counted, TextFault};
 use ttx_files::{FilesFault, read_text};
+use ttx_send::Moment;
 use ttx_tool::ToolFault;
+use ttx_tool::commands::beginnings;
 
 // Where systems keep the rules of time zones.
 const FOLDERS: [&str; 3] = [
@@ -72,10 +74,20 @@ pub fn zones_with(rt: &HostRuntime, name: &str) -> Result<TimeZoneDatabase, Tool
     Ok(zones)
 }
 
-/// What the machine's clock shows, if a start asks for that.
-pub fn now_for(rt: &HostRuntime, start: &Start<'_>) -> Option<Timestamp> {
+// What the machine's clock shows, if a start asks for that.
+fn now_for(rt: &HostRuntime, start: &Start<'_>) -> Option<Timestamp> {
     match start {
         Start::Now => Timestamp::now(rt).ok(),
         _ => Some(Timestamp::UNIX_EPOCH),
     }
+}
+
+/// When a sending begins by a clock so many half hours ahead of UTC.
+pub fn begin_ahead(rt: &HostRuntime, start: &Start<'_>, offset: &Offset) -> Option<Moment> {
+    beginnings::ahead(start, now_for(rt, start)?, offset)
+}
+
+/// When a sending begins by the clock of a zone.
+pub fn begin_zoned(rt: &HostRuntime, start: &Start<'_>, zone: &TimeZone<'_>) -> Option<Moment> {
+    beginnings::zoned(start, now_for(rt, start)?, zone)
 }

@@ -1,0 +1,416 @@
+#!/usr/bin/env python3
+"""Puts services on the air, changes their texts meanwhile, and compares what `air` writes, byte for byte, and its log, line for line, with a
+plain head-end in this script. The texts that are saved are good ones, with each kind of refusal between two of them.
+
+usage: aired.py PROGRAM
+
+The service is a named pipe first, another one for each time that `air` looks at it, so it is known which text is looked at when. Then it
+is a file, which is replaced, and goes away and comes back: the pipe of the packets is made as small as it can be, so at most 225 slots are on
+their way; the file is changed when the end of a period has gone by, and the next one is farther away than that.
+"""
+import datetime
+import fcntl
+import hashlib
+import os
+import re
+import subprocess
+import sys
+import tempfile
+import threading
+import time
+from pathlib import Path
+
+from sent import timed
+
+TOP = Path(__file__).resolve().parent.parent
+MJD, SECOND = 61000, 86390
+AT = "61000/235950"
+AHEAD = 3600
+PIPE = 4096
+
+
+def ran(program, folder, *words):
+    return subprocess.run([program, *words], cwd=folder, capture_output=True, text=True, check=False)
+
+
+class Service:
+    """A text, and what the other commands say of it."""
+
+    def __init__(self, program, folder, text, late):
+        self.program, self.folder = program, folder
+        self.text, self.late = text, ["--late"] if late else []
+        self.mark = " " + hashlib.sha256(text).hexdigest()
+        (folder / "text.toml").write_bytes(text)
+        self.planned = ran(program, folder, "plan", "text.toml", "text.t42", *self.late)
+        self.slots = []
+        if self.planned.returncode == 0:
+            data = (folder / "text.t42").read_bytes()
+            self.slots = [data[at : at + 42] for at in range(0, len(data), 42)]
+        self.lines = int(re.search(rb"^lines = (\d+)", text, re.M)[1]) if b"lines" in text else 0
+        self.ids = re.findall(rb'^number = "(.*)"\n(?:sub = "(.*)"\n)?', text, re.M)
+
+    def certified(self, deadline=None):
+        """The certificate with this deadline, or with the least one, is left in the folder; says that one."""
+        self.again()
+        asked = [] if deadline is None else ["--deadline", str(deadline)]
+        said = ran(self.program, self.folder, "find", "text.t42", "text.toml", "text.cert", *asked).stdout
+        return int(re.search(r"deadline (\d+)", said)[1]) if said.startswith("found") else None
+
+    def again(self):
+        (self.folder / "text.toml").write_bytes(self.text)
+        (self.folder / "text.t42").write_bytes(b"".join(self.slots))
+
+    def gap(self):
+        """The slots that late receivers wait."""
+        if not self.late:
+            return 0
+        said = ran(self.program, self.folder, "certify", "text.t42", "text.toml", "text.cert", "--late").stdout
+        return int(re.search(r"late (\d+)", said)[1])
+
+    def waits(self):
+        """The pages in their order, with the fields that a viewer waits."""
+        self.again()
+        said = ran(self.program, self.folder, "wait", "text.t42", "text.toml").stdout
+        return [(page, int(fields)) for page, fields in re.findall(r"^(\w+/\w+) (\d+) fields", said, re.M)]
+
+
+def spliced(old, new, deadline):
+    """The reason why a change is refused, or None."""
+    folder = old.folder
+    for name, service in ("old", old), ("new", new):
+        service.certified(deadline)
+        for end in "toml", "t42", "cert":
+            os.replace(folder / f"text.{end}", folder / f"{name}.{end}")
+    said = ran(old.program, folder, "splice", "old.t42", "new.t42", "old.toml", "new.toml", "old.cert", "new.cert").stdout
+    return None if said == "yes\n" else said
+
+
+def times(field):
+    """The field's time, as the log says it."""
+    day = datetime.datetime(1858, 11, 17) + datetime.timedelta(days=MJD, seconds=SECOND + field // 50 + AHEAD)
+    return day.strftime("%Y-%m-%dT%H:%M:%S") + "+01:00"
+
+
+def pages(count):
+    return f"{count} page{'' if count == 1 else 's'}"
+
+
+class HeadEnd:
+    """A plain head-end: what it sends, and its log."""
+
+    def __init__(self, first, within, fields, late):
+        self.lines, self.fields = first.lines, fields
+        least = first.certified()
+        up = -(-first.gap() // self.lines)
+        share = within * up // (least + up)
+        self.deadline, self.gap = within - share, share * self.lines
+        kinds = ("late" if late else "at-once") + " plain"
+        self.log = [f"air within {within} repeat 1 {kinds} lines {self.lines} fields {fields} at {AT} ahead {AHEAD}"]
+        self.note(0, f"on air{first.mark}: {pages(len(first.ids))}, deadline {self.deadline} fields "
+                     f"({self.deadline // 50}.{self.deadline % 50 * 2:02} s), {len(first.slots)} slots")
+        self.service, self.held, self.sent, self.stream = first, None, 0, bytearray()
+        self.next, self.tried, self.unread = 0, first.text, False
+
+    def note(self, field, words):
+        self.log.append(f"field {field} {times(field)} {words}")
+
+    def period(self):
+        """Sends the edition on the air once."""
+        for slot in self.service.slots:
+            self.stream += timed(slot, *divmod_day(SECOND + self.sent // self.lines // 50), AHEAD)
+            self.sent += 1
+        if self.held is not None:
+            self.held += len(self.service.slots)
+
+    def is_held(self):
+        return self.held is not None and self.held < self.deadline * self.lines
+
+    def looks(self):
+        """Whether the text is looked at where a period has ended: after the hold, and not twice within 50 fields."""
+        if self.is_held() or self.field() < self.next:
+            return False
+        self.next = self.field() + 50
+        return True
+
+    def field(self):
+        return self.sent // self.lines
+
+    def keep(self, mark, words):
+        self.note(self.field(), f"kept{mark}: {words}")
+
+    def take(self, service):
+        old, new = self.service.ids, service.ids
+        came, gone = len([p for p in new if p not in old]), len([p for p in old if p not in new])
+        self.note(self.field(), f"changed{service.mark}: {pages(came)} new, {gone} gone, deadline {self.deadline}")
+        self.service, self.held = service, 0
+
+
+def divmod_day(seconds):
+    days, second = divmod(seconds, 86400)
+    return MJD + days, second
+
+
+class Air:
+    """A running `air`, whose packets are read as they are wanted."""
+
+    def __init__(self, program, folder, words):
+        reader, writer = os.pipe()
+        fcntl.fcntl(writer, fcntl.F_SETPIPE_SZ, PIPE)
+        self.errors = open(folder / "errors", "w+b")
+        self.process = subprocess.Popen([program, "air", *words], cwd=folder, stdout=writer, stderr=self.errors, stdin=subprocess.DEVNULL)
+        os.close(writer)
+        self.reader, self.stream = reader, bytearray()
+
+    def read_to(self, size):
+        while len(self.stream) < size:
+            part = os.read(self.reader, min(PIPE, size - len(self.stream)))
+            if not part:
+                return
+            self.stream += part
+
+    def ended(self):
+        """The status, and what was written to standard error."""
+        status = self.process.wait()
+        self.errors.seek(0)
+        return status, self.errors.read().decode()
+
+
+def edited(text, old, new):
+    assert text.count(old) == 1, old
+    return text.replace(old, new)
+
+
+def more_pages(text, count):
+    """The text with so many pages more, each full."""
+    rows = "".join(f'{n} = "{"x" * 40}"\n' for n in range(1, 24))
+    return text + "".join(f'\n[[page]]\nnumber = "{200 + n // 10 * 6 + n:X}"\n[page.rows]\n{rows}' for n in range(count)).encode()
+
+
+def moved_page(text):
+    """The text with its first page behind all others."""
+    head, *pages = text.split(b"\n[[page]]\n")
+    return b"\n[[page]]\n".join([head, *pages[1:], pages[0] + b"\n"])
+
+
+def short_texts():
+    """Texts with a period shorter than a second, so that not each end of a period is one at which the text is looked at."""
+    return [f'lines = 2\nserial = true\n[[page]]\nnumber = "100"\nhead = "{head}"\n'.encode() for head in ("one", "two", "two", "three", "one")]
+
+
+def late_texts():
+    """Two good texts, and one between them that only late receivers refuse: the last page of magazine 1 is ended after many pages of magazine 2."""
+    order = list(range(100, 112))
+    texts = order, order[:6] + [page + 100 for page in order[6:]], order[:-1]
+    return [("lines = 2\nserial = true\n" + "".join(f'[[page]]\nnumber = "{page}"\n' for page in pages)).encode() for pages in texts]
+
+
+def check_words(program, folder, text):
+    (folder / "checked.toml").write_bytes(text)
+    said = ran(program, folder, "check", "checked.toml").stdout
+    return said.rstrip("\n") if said.startswith("line ") else None
+
+
+def steps(base):
+    """Texts that are saved one after another: with mistakes, too long, too slow, empty and half-written ones between good ones."""
+    good = [base]
+    for number, words in enumerate([b"calm", b"sunny", b"stormy"]):
+        good.append(edited(base, b'head = "Our TV Text  Index"', b'head = "Our TV Text %d %s"' % (number, words)))
+    # a new page, and one page less
+    good.append(more_pages(base, 1))
+    refused = [
+        edited(base, b"serial = true", b"serial = yes"),
+        edited(base, b"lines = 12", b"lines = 99"),
+        edited(base, b"lines = 12", b"lines = 13"),
+        more_pages(base, 1200),
+        more_pages(base, 60),
+        b"",
+        base[: len(base) // 2],
+    ]
+    told = []
+    for number, text in enumerate(refused):
+        told += [good[number % len(good)], text]
+    return told + [good[1], good[1], good[0]]
+
+
+def news(head_end, text):
+    """What the plain head-end does with the text that it finds; None is a file that cannot be read."""
+    if text is None:
+        if not head_end.unread:
+            head_end.keep("", "the text cannot be read")
+        head_end.unread = True
+        return
+    head_end.unread = False
+    if text == head_end.tried:
+        return
+    head_end.tried = text
+    program, folder = head_end.service.program, head_end.service.folder
+    service = Service(program, folder, text, bool(head_end.service.late))
+    words = check_words(program, folder, text)
+    if words is not None:
+        head_end.keep(service.mark, words)
+    elif service.planned.returncode != 0:
+        head_end.keep(service.mark, service.planned.stderr.removeprefix("refused: ").rstrip("\n"))
+    elif service.certified() > head_end.deadline:
+        slow = [f"{page} {fields} fields of {head_end.deadline}" for page, fields in service.waits() if fields > head_end.deadline]
+        head_end.keep(service.mark, "late " + ", ".join(slow))
+    else:
+        reason = spliced(head_end.service, service, head_end.deadline)
+        if reason is None and service.late:
+            service.certified()
+            if service.gap() > head_end.gap:
+                reason = f"no 8 too-far {service.gap()}"
+        if reason is None:
+            head_end.take(service)
+        else:
+            head_end.keep(service.mark, reason.rstrip("\n"))
+
+
+def different(head_end, stream, status, errors):
+    """What is different from the plain head-end, or None."""
+    fields = head_end.fields
+    while head_end.field() < fields:
+        head_end.period()
+    head_end.note(fields, "end")
+    wanted = bytes(head_end.stream[: 42 * fields * head_end.lines])
+    wanted_log = "".join(line + "\n" for line in head_end.log)
+    if status != 0 or errors != wanted_log:
+        return f"status {status}, log:\n{errors}wanted:\n{wanted_log}"
+    if stream != wanted:
+        first = next((at for at, (a, b) in enumerate(zip(stream, wanted)) if a != b), min(len(stream), len(wanted)))
+        return f"{len(stream)} bytes of {len(wanted)}; byte {first} is another one"
+    print(f"{wanted_log.count(' changed ')} changes, {wanted_log.count(' kept')} kept, {len(wanted)} bytes")
+    return None
+
+
+def options(within, late, fields):
+    return ["--within", str(within / 50), "--at", AT, "--offset", "2", "--fields", str(fields)] + ([] if late else ["--at-once"])
+
+
+def give(path, text, process):
+    """Gives the text to the process, once that has opened the pipe, and puts another pipe in its place for the next time."""
+    while True:
+        try:
+            pipe = os.open(path, os.O_WRONLY | os.O_NONBLOCK)
+            break
+        except OSError:
+            if process.poll() is not None:
+                return
+            time.sleep(0.001)
+    other = path.with_name("next.pipe")
+    os.mkfifo(other)
+    os.replace(other, path)
+    os.set_blocking(pipe, True)
+    with os.fdopen(pipe, "wb") as file:
+        file.write(text)
+
+
+def wrong_air(program, folder, texts, within, late, periods):
+    """What is wrong with an airing of these texts, each of which is there when the pipe is opened once more; or None."""
+    path = folder / "service.pipe"
+    os.mkfifo(path)
+    first = Service(program, folder, texts[0], late)
+    fields = len(first.slots) * periods // first.lines
+    head_end = HeadEnd(first, within, fields, late)
+    air = subprocess.Popen([program, "air", path.name, *options(within, late, fields), "--log", "log"], cwd=folder, stdout=subprocess.PIPE,
+                           stderr=subprocess.PIPE, stdin=subprocess.DEVNULL)
+    got = {}
+    threads = [threading.Thread(target=lambda n, s: got.update({n: s.read()}), args=(n, s)) for n, s in (("out", air.stdout), ("err", air.stderr))]
+    for thread in threads:
+        thread.start()
+    give(path, texts[0], air)
+    rest = list(texts[1:])
+    while head_end.sent + len(head_end.service.slots) <= fields * first.lines:
+        head_end.period()
+        if head_end.looks():
+            text = rest.pop(0) if rest else head_end.tried
+            give(path, text, air)
+            news(head_end, text)
+    for thread in threads:
+        thread.join()
+    status = air.wait()
+    path.unlink()
+    if rest:
+        return f"{len(rest)} texts were not looked at"
+    said = different(head_end, got["out"], status, got["err"].decode())
+    if said is None and (folder / "log").read_bytes() != got["err"]:
+        said = f"the file has another log: {(folder / 'log').read_text()}"
+    return said
+
+
+def wrong_file(program, folder, texts, within):
+    """What is wrong with an airing over a file that has these texts, where None is no file; or None."""
+    path = folder / "service.toml"
+    path.write_bytes(texts[0])
+    first = Service(program, folder, texts[0], True)
+    fields = len(first.slots) * 5 * len(texts) // first.lines
+    head_end = HeadEnd(first, within, fields, True)
+    air = Air(program, folder, [path.name, *options(within, True, fields)])
+    for text in texts[1:]:
+        # past the end of the last period, and well before that of the next one
+        air.read_to(42 * (head_end.sent + 260))
+        if text is None:
+            path.unlink(missing_ok=True)
+        else:
+            (folder / "other.toml").write_bytes(text)
+            os.replace(folder / "other.toml", path)
+        head_end.period()
+        while not head_end.looks():
+            head_end.period()
+        news(head_end, text)
+    air.read_to(42 * fields * first.lines + 1)
+    os.close(air.reader)
+    return different(head_end, bytes(air.stream), *air.ended())
+
+
+def wrong_end(program, folder, base):
+    """What is wrong where the reader goes away; or None."""
+    (folder / "service.toml").write_bytes(base)
+    air = Air(program, folder, ["service.toml", "--within", "6", "--at", AT])
+    air.read_to(100_000)
+    os.close(air.reader)
+    status, errors = air.ended()
+    lines = errors.splitlines()
+    if status != 3 or lines[-1] != "fault: write" or len(lines) != 3:
+        return f"the reader went away: status {status}, {errors}"
+    return None
+
+
+def wrong_start(program, folder, base):
+    """What is wrong where a first text has no edition; or None."""
+    path = folder / "service.toml"
+    cases = [
+        (edited(base, b"lines = 12", b"lines = 99"), "6", "refused: line 9 column 9 lines: lines is out of range"),
+        (more_pages(base, 1200), "6", "refused: plan 2 too-long\n"),
+        (base, "2", "refused: late 100/0000 "),
+    ]
+    for text, within, wanted in cases:
+        path.write_bytes(text)
+        run = ran(program, folder, "air", "service.toml", "--within", within, "--at", AT, "--fields", "1")
+        if run.returncode != 2 or run.stdout or not run.stderr.startswith(wanted):
+            return f"wanted {wanted!r}, not {run.returncode} {run.stderr!r}"
+    return None
+
+
+def main():
+    program = os.path.abspath(sys.argv[1])
+    base = (TOP / "examples/broadcast.toml").read_bytes()
+    with tempfile.TemporaryDirectory() as name:
+        folder = Path(name)
+        checks = [
+            lambda: wrong_start(program, folder, base),
+            lambda: wrong_air(program, folder, steps(base), 250, True, 60),
+            lambda: wrong_air(program, folder, steps(base), 250, False, 60),
+            lambda: wrong_air(program, folder, [base, moved_page(base), moved_page(base), base], 130, False, 12),
+            lambda: wrong_air(program, folder, late_texts(), 240, True, 8),
+            lambda: wrong_air(program, folder, short_texts(), 100, True, 100),
+            lambda: wrong_file(program, folder, [base, None, None, steps(base)[2], base], 250),
+            lambda: wrong_end(program, folder, base),
+        ]
+        wrong = [said for said in (check() for check in checks) if said is not None]
+    for said in wrong:
+        print(said)
+    return 1 if wrong else 0
+
+
+if __name__ == "__main__":
+    sys.exit(main())
