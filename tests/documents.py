@@ -1,9 +1,10 @@
 #!/usr/bin/env python3
 """Runs each example of README.md and docs/ word for word, and compares its output. Checks that the links, files, calls, clauses, laws,
-definitions, mutants, crates, commands, options and quoted lines that the documents name exist; that each name of docs/CONTRACTS.md stands in the crate of its
-row, in a contract that the definitions of the row state; that crates and the files of commands stand where docs/LAYERS.md says; that
-figures quoted from docs/MEASURED.md are there; the table of waits in docs/SERVICE.md; that a document leads to each file of examples/
-(recipes.sh runs them); and that README.md and docs/ together have at most 120 kB.
+definitions, mutants, crates, commands, options and quoted lines that the documents name exist; that each name of docs/CONTRACTS.md
+stands in the crate of its row, in a contract that the definitions of the row state; that crates and the files of commands stand where
+docs/LAYERS.md says; that figures quoted from docs/MEASURED.md are there; the table of waits in docs/SERVICE.md; that the texts of
+docs/AUTHORS.md can be composed; that a document leads to each file of examples/ (recipes.sh runs them); and that README.md and docs/
+together have at most 120 kB.
 
 usage: documents.py [PROGRAM] (without PROGRAM no example is run)
 """
@@ -49,8 +50,30 @@ def examples(text):
     return [(command, lines) for command, lines in told if lines is not None]
 
 
+def authored_texts():
+    """The texts in docs/AUTHORS.md, the first of them whole, the others rows of a page."""
+    return re.findall(r"^```toml\n(.*?)^```$", (TOP / "docs/AUTHORS.md").read_text(), re.M | re.S)
+
+
+def wrong_texts(folder, words):
+    """The texts in docs/AUTHORS.md that `compose` does not make a service of."""
+    first, *others = authored_texts()
+    for text in [first, *(first[:first.index("[page.rows]")] + other for other in others)]:
+        (folder / "authored.toml").write_text(text)
+        done = run("ttx compose authored.toml composed.toml", folder, words)
+        if done.stdout != "composed 1 pages\n":
+            yield f"AUTHORS.md: {done.stdout}{done.stderr}"
+
+
+def wrong_fences(document):
+    """The fenced blocks that nothing runs: all but the texts of docs/AUTHORS.md."""
+    for language in re.findall(r"^```(\w+)$", document.read_text(), re.M):
+        if language != "toml" or document.name != "AUTHORS.md":
+            yield f"a block of {language} that nothing runs"
+
+
 def made(folder, program):
-    """The files and programs that the examples name; news.toml is the first page of docs/SERVICE.md."""
+    """The files and programs that the examples name; desk.toml is the first page of docs/AUTHORS.md."""
     programs = folder / "bin"
     programs.mkdir()
     (programs / "ttx").symlink_to(program)
@@ -59,8 +82,7 @@ def made(folder, program):
     for file in (TOP / "tests/data").iterdir():
         shutil.copy(file, folder)
     shutil.copy(TOP / "examples/broadcast.toml", folder)
-    first = re.search(r"^```toml\n(.*?)^```$", (TOP / "docs/SERVICE.md").read_text(), re.M | re.S)
-    (folder / "news.toml").write_text(first.group(1))
+    (folder / "desk.toml").write_text(authored_texts()[0])
     return {**os.environ, "PATH": f"{programs}:{os.environ['PATH']}"}
 
 
@@ -385,7 +407,7 @@ def failed_examples(documents, program):
                 is_odd = done.returncode > 2 or (done.returncode and not lines) or (done.returncode == 2 and "check" not in command)
                 if printed != lines or is_odd:
                     faults.append(f"{command}: status {done.returncode}, it prints {printed[:3]}, and {document.name} has {lines[:3]}")
-        faults += wrong_waits(folder, words)
+        faults += [*wrong_waits(folder, words), *wrong_texts(folder, words)]
     return count, faults
 
 
@@ -411,6 +433,7 @@ def main():
     faults += [*wrong_size(), *unnamed_examples(documents)]
     for document in documents:
         faults += [f"{document.name}: no file {link}" for link in dead_links(document)]
+        faults += [f"{document.name}: {fault}" for fault in wrong_fences(document)]
         faults += [f"{document.name}: {fault}" for fault in unknown_names(document, helps)]
         faults += [f"{document.name}: {figure} isn't in MEASURED.md" for figure in unmeasured(document)]
     for fault in faults:
