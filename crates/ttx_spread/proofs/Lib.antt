@@ -1,0 +1,3 @@
+mod RoundsNest
+mod LightBlocks
+mod SpreadNumbers

@@ -1,0 +1,4 @@
+//! Laws of spread plans.
+#![tactic(auto)]
+
+pub mod laws;
