@@ -1,5 +1,5 @@
 -- A number that each edition of a schedule sends whole, in all that is sent: each block is whole there, too.
-use Rattle.std.proofs.Common.{◌≡◌, ℕ, zero, suc, ◌+◌, ◌*◌, ◌<◌, ◌≤◌, ℤ, pos, negsuc, ◌+ℤ◌, ◌-ℤ◌, ◌<ℤ◌, ◌≤ℤ◌, Bool, true, false, ◌&&◌, not, eqb, List, [], ◌∷◌}
+use Rattle.std.proofs.Common.{◌≡◌, ℕ, zero, suc, ◌*◌, ◌<◌, ◌≤◌, ℤ, pos, negsuc, ◌+ℤ◌, ◌-ℤ◌, ◌<ℤ◌, ◌≤ℤ◌, Bool, true, false, ◌&&◌, not, eqb, List, [], ◌∷◌}
 use Rattle.std.proofs.Common.{length, get_or, refl, sym, ap, ◌∙◌, subst, inl, inr, arith}
 use Rattle.std.proofs.lemmas.Int.{ints}
 use Rattle.std.proofs.lemmas.Bool.{both_ways}
@@ -9,18 +9,16 @@ use Rattle.ttx_page.proofs.SlotDistances.{cases_ltz}
 use Rattle.ttx_page.specs.Laws.{OwnersAreNear, OwnersComeFirst, CyclesRepeat}
 use Rattle.ttx_page.specs.Packets.{Packet, Header, packet_of}
 use Rattle.ttx_page.specs.Pages.{Page, IsPage, needed}
-use Rattle.ttx_page.specs.declared.class.Class.{Class}
 use Rattle.ttx_page.specs.declared.class.Class.TheVariants.{Any}
 use Rattle.ttx_page.specs.declared.item.Item.{Item}
 use Rattle.ttx_page.specs.declared.item.Item.TheVariants.{Head as TheHead, Row as TheRow, Links as TheLinks}
 use Rattle.ttx_page.specs.declared.selection.Selection.TheVariants.{AnySub}
-use Rattle.ttx_page.specs.Streams.{Stream, repeated, joined, heads, heads_page, heads_matched, IsOwned, IsSure, IsLatestHeader}
+use Rattle.ttx_page.specs.Streams.{Stream, repeated, joined, heads, heads_page, heads_matched, IsOwned}
 use Rattle.ttx_page.specs.Steady.{IsChecked, IsTrueTo}
 use Rattle.ttx_page.specs.Followers.{IsFollowed, heads_another}
 use Rattle.ttx_witness.specs.Coverage.{Accepts, limit}
-use Rattle.ttx_late.specs.LateReceivers.{LateMemory}
 use Rattle.ttx_subpages.specs.WholeBlocks.{IsSubpage, ComesUnder}
-use Rattle.ttx_subpages.specs.ListsInForce.{SendsListed, TunesToLists, ShowsListed}
+use Rattle.ttx_subpages.specs.ListsInForce.{SendsListed}
 use Rattle.ttx_subpages.specs.Laws.{ListedBlocksAreSeen}
 use Rattle.ttx_proof.specs.Splices.{Splice, NumbersAgree}
 use Rattle.ttx_proof.specs.Laws.{IsSplice, BothAccepted}
@@ -30,7 +28,7 @@ use Rattle.ttx_proof.proofs.StreamsOfSides as S
 use Rattle.ttx_proof.proofs.AgreeingStreams as A
 use Rattle.ttx_proof.proofs.BridgedIsSeen as B
 use Rattle.ttx_playout.specs.Schedules.{Edition, Showing, span, sent, change, IsEdition, AreEditions, IsHandedOn}
-use Rattle.ttx_change.specs.OldOrNew.{lists_of, SendsNumber, EndsWhole, HasEnded}
+use Rattle.ttx_change.specs.OldOrNew.{lists_of, SendsNumber}
 use Rattle.ttx_change.specs.Scheduled.{lists_through, HandsOverWhole, SchedulesAreWhole}
 use Rattle.ttx_change.proofs.JoinedNumbers as J
 

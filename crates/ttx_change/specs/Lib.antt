@@ -1,5 +1,6 @@
 pub mod OldOrNew
 pub mod Scheduled
 pub mod LateSplices
+pub mod WholeChanges
 pub mod LateSpliceLines
 pub mod LateSpliceFiles

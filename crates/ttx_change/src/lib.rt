@@ -7,10 +7,12 @@ mod files;
 mod judging;
 pub mod laws;
 mod lines;
+mod on_air;
 mod verdict;
 
 pub use editions::open_between;
 pub use files::splice_files_late;
 pub use judging::late_splice;
 pub use lines::late_splice_line;
-pub use verdict::LateSplice;
+pub use on_air::judge_whole;
+pub use verdict::{LateSplice, WholeChange};

@@ -1,6 +1,7 @@
 //! The verdict on a splice for receivers that show a page only where it ends.
 
 use ttx_header::PageId;
+use ttx_playout::LateChange;
 use ttx_proof::SentVerdict;
 
 /// Whether a splice is accepted for receivers that show a page only where it ends, too; if not, the first reason.
@@ -15,4 +16,15 @@ pub enum LateSplice {
     Stored { page: PageId, slot: u32 },
     /// 9. After the last header of the old page the next one of its magazine has the same page number, or there is none.
     Unfollowed { page: PageId },
+}
+
+/// Whether a change of the edition on the air is accepted for receivers that show a page late, also those that show it only where it ends;
+/// if not, the first reason.
+#[derive(Clone, Copy)]
+pub enum WholeChange {
+    Yes,
+    /// The change is not accepted, or a page is not followed by another page number in time.
+    No(LateChange),
+    /// When the edition on the air ends, something of a page is still open: `Amid`, `Stored` or `Unfollowed`.
+    Open(LateSplice),
 }
