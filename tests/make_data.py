@@ -518,6 +518,7 @@ def main():
         "erased.t42": with_byte(base(), 0, 5, 0xD0),
         "linked.t42": with_slot(base(), 26, links(1, (5, 0, 15, 15, 15, 7))),
         "no-header.t42": with_slot(base(), 0, EMPTY),
+        "no-row-5.t42": with_slot(base(), 7, EMPTY),
         "turned.t42": [*base()[10:], *base()[:10]],
         "two-pages.t42": two_pages(),
         "other-magazine.t42": with_slot(base(), 1, header(2, 0, 0, 0, 0)),

@@ -3,13 +3,15 @@
 
 usage: monitored.py PROGRAM [COUNT]
 
-Half of the feeds are judged, the others are reported while they come: `--all`, `--every` with random fields, or both. A feed is what a receiver got of a cycle that is sent again and again, from any slot on, with clocks as they may be, wrong bits within the
-error rule and outside of it, lost slots, slots where none was sent, and a rest. The slot that it begins with is named or found, and it is
-read from a file or from standard input. The plain program in this script says what the error rule says: an empty slot is received empty,
+Some feeds are judged, some by rows, and others are reported while they come: `--all`, `--every` with random fields, or both. A feed is what
+a receiver got of a cycle that is sent again and again, from any slot on, with clocks as they may be, wrong bits within the error rule and
+outside of it, lost slots, slots where none was sent, and a rest. The slot that it begins with is named or found, and it is read from a file or
+from standard input. The plain program in this script says what the error rule says: an empty slot is received empty,
 each other byte with one wrong bit at most, and of any K successive transmissions of a text byte one is received right; clocks in page
 headers and packets 8/30 are free. It says too where the feed has slipped: a slot does not fit, nor do most of the next period, but so many
-slots on in the cycle most of them do, and the first packet among them. Feeds of the first cycle begin with each of its slots. Last, cycles
-are sent by `send` with the time, and the packets judged from some slot on.
+slots on in the cycle most of them do, and the first packet among them. By rows, a packet may be lost unless it is a header or X/27/0 of a
+page's magazine, and of any K successive transmissions of a row that a viewer sees one is received whole. Feeds of the first cycle begin with
+each of its slots. Last, cycles are sent by `send` with the time, and the packets judged from some slot on.
 """
 import os
 import random
@@ -21,20 +23,30 @@ import tempfile
 WORDS = bytes.fromhex("1502495e6473382fd0c78c9ba1b6fdea")
 EMPTY = bytes(42)
 INFO = '[info]\ninitial = "100"\nnetwork = "12F4"\nmjd = 46000\nutc = 123045\ntext = "Our TV"\n'
-ROWS = ["a row", "\\u0001red \\u0012mosaic", "", "x" * 40]
+READ = [next((n for n, word in enumerate(WORDS) if bin(word ^ byte).count("1") <= 1), None) for byte in range(256)]
+ROWS = ["a row", "\\u0001red \\u0012mosaic", "", "x" * 40, "\\u000Dtall"]
 
 
 def service(draw):
-    """The text of a small service, and the ids of its pages."""
+    """The text of a small service, and the ids of its pages, each with the rows that a viewer sees."""
     text = f"lines = {draw.choice([1, 2, 4])}\nserial = {draw.choice(['true', 'false'])}\n" + draw.choice(["", INFO])
-    ids = []
+    ids = {}
     for number in sorted(draw.sample(["100", "101", "1A0", "234", "877"], draw.randint(1, 3))):
         for sub in range(draw.choice([1, 1, 2])):
-            ids.append(f"{number}/{sub:04X}")
             text += f'[[page]]\nnumber = "{number}"\nsub = "{sub:04X}"\noften = {draw.choice([1, 1, 2])}\nhead = "page {number}"\n[page.rows]\n'
-            for row in sorted(draw.sample(range(1, 25), draw.randint(0, 4))):
-                text += f'{row} = "{draw.choice(ROWS)}"\n'
+            rows = {row: draw.choice(ROWS) for row in sorted(draw.sample(range(1, 25), draw.randint(0, 4)))}
+            text += "".join(f'{row} = "{said}"\n' for row, said in rows.items())
+            ids[f"{number}/{sub:04X}"] = seen(rows)
     return text, ids
+
+
+def seen(rows):
+    """The rows that a viewer sees: not row 24, which no links show, and none below one in double height."""
+    hidden = set()
+    for row in range(1, 23):
+        if row not in hidden and "000D" in rows.get(row, ""):
+            hidden.add(row + 1)
+    return set(range(1, 24)) - hidden
 
 
 def address(slot):
@@ -139,6 +151,49 @@ def verdict(cycle, ids, repeat, feed, rest, named):
     return 0, text + (f"rest {rest} bytes\n" if rest else "")
 
 
+def ignored(slot):
+    """Whether a receiver takes nothing of these bytes: they are no header, no row and no X/27/0."""
+    low, high = READ[slot[0]], READ[slot[1]]
+    if slot == EMPTY or low is None or high is None:
+        return True
+    number = low // 8 + 2 * high
+    if number == 0:
+        return any(READ[byte] is None for byte in slot[2:10])
+    return number > 24 and (number != 27 or READ[slot[2]] != 0)
+
+
+def may_be_lost(ids, slot):
+    """Whether the packet that was sent may be lost."""
+    mag, number = address(slot) or (0, 99)
+    head = number == 0 or (number == 27 and READ[slot[2]] == 0)
+    return not (head and any(page[0] == str(mag) for page in ids))
+
+
+def verdict_by_rows(cycle, ids, repeat, feed, rest, named):
+    """The status and the text for a feed, by the rule by rows."""
+    start = cycle.start_of(feed) if named is None else named
+    lost, torn = 0, {}
+    for n, received in enumerate(feed):
+        at = (start + n) % len(cycle)
+        sent, far = cycle.slots[at], cycle.far(at, received)
+        if far is not None and not (ignored(received) and may_be_lost(ids, sent)):
+            by = cycle.slip(at, feed[n:n + len(cycle)])
+            if by is not None:
+                return 1, f"no slot {n} shifted by {signed(by, len(cycle))} start {start}\n"
+            way = "unlike" if sent == EMPTY else "lost" if received == EMPTY else f"byte {far}"
+            return 1, f"no slot {n} {way} start {start}\n"
+        lost += far is not None and sent != EMPTY
+        text = cycle.texts[at]
+        if text is None or text[1] not in ids.get(text[0], ()):
+            continue
+        whole = far is None and received[2:] == sent[2:]
+        torn[text] = 0 if whole else torn.get(text, 0) + 1
+        if torn[text] == repeat:
+            return 1, f"no repeat {text[0]} row {text[1]} slot {n} start {start}\n"
+    text = f"yes start {start} slots {len(feed)} lost {lost}\n"
+    return 0, text + (f"rest {rest} bytes\n" if rest else "")
+
+
 class Heard:
     """A feed that is heard slot by slot from slot `start` of the cycle on."""
 
@@ -228,7 +283,7 @@ def damaged(draw, cycle, ids, start, count, repeat):
                 slot[x] = draw.randrange(256)
         feed.append(bytes(slot))
     sent = [n for n in range(count) if feed[n] != EMPTY]
-    kind = draw.choice(["clean", "near", "near", "streak", "streak", "two bits", "lost", "unlike", "slipped", "slipped"])
+    kind = draw.choice(["clean", "near", "near", "streak", "streak", "two bits", "lost", "unlike", "slipped", "slipped", "gone", "gone"])
     for n in draw.sample(sent, len(sent) // 3) if kind != "clean" and draw.random() < 0.7 else []:
         flip(feed, n, draw.randrange(2), 1 << draw.randrange(8))
     if kind == "near" and sent and repeat > 1:
@@ -246,6 +301,17 @@ def damaged(draw, cycle, ids, start, count, repeat):
         at, length, x = draw.randrange(len(ones)), draw.choice([repeat, max(repeat - 1, 1)]), draw.randrange(10, 34)
         for n in ones[at:at + length]:
             flip(feed, n, x, 1 << draw.randrange(8))
+    if kind == "gone":
+        # packets that may be lost by rows: each row at most repeat - 1 times in a row, or once more
+        gone, most = {}, draw.choice([repeat, max(repeat - 1, 1)])
+        for n in range(count):
+            at = (start + n) % len(cycle)
+            text = cycle.texts[at]
+            if feed[n] != EMPTY and may_be_lost(ids, cycle.slots[at]) and gone.get(text, 0) < most and draw.random() < 0.5:
+                gone[text] = gone.get(text, 0) + 1
+                feed[n] = draw.choice([EMPTY, bytes([255, 255]) + feed[n][2:], bytes([WORDS[10], WORDS[15]]) + feed[n][2:]])
+            else:
+                gone[text] = 0
     if kind == "two bits" and sent:
         n = draw.choice(sent)
         flip(feed, n, draw.randrange(42), draw.choice([3, 0x81, 0xff]))
@@ -302,7 +368,7 @@ def sends(program, draw):
 
 def main():
     program = os.path.abspath(sys.argv[1])
-    count = int(sys.argv[2]) if len(sys.argv) > 2 else 2000
+    count = int(sys.argv[2]) if len(sys.argv) > 2 else 2600
     draw = random.Random(52)
     failed = made = 0
     with tempfile.TemporaryDirectory() as folder:
@@ -318,11 +384,14 @@ def main():
                 named = draw.choice([None, None, start, start + len(cycle), draw.randrange(65536)])
                 rest = draw.choice([0, 0, 1, 41])
                 tell_all, every = draw.choice([(False, None)] * 3 + [(True, None), (True, draw.randint(1, 60)), (False, draw.randint(1, 60))])
-                more = (["--all"] if tell_all else []) + ([] if every is None else ["--every", str(every)])
+                by_rows = not tell_all and every is None and draw.random() < 0.5
+                more = (["--rows"] if by_rows else []) + (["--all"] if tell_all else []) + ([] if every is None else ["--every", str(every)])
                 if tell_all:
                     for n in draw.sample(range(len(feed)), min(len(feed), draw.choice([0, 1, 5]))):
                         feed[n] = EMPTY
-                if more:
+                if by_rows:
+                    wanted = verdict_by_rows(cycle, ids, repeat, feed, rest, named)
+                elif more:
                     wanted = reported(cycle, ids, repeat, feed, rest, named, lines, every, tell_all)
                 else:
                     wanted = verdict(cycle, ids, repeat, feed, rest, named)

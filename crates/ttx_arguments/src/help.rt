@@ -517,6 +517,8 @@ error rule. Writes the verdict to standard output, one of
       an empty line was sent, and something else received
   no repeat PAGE ITEM byte X slot I start S
       this text byte was wrong in K successive transmissions, at last in slot I
+  no slot I shifted by J start S
+      from slot I on, J slots of CYCLE are missing, or -J too many
 A yes is followed by the line
   rest R bytes
       if R bytes, fewer than a slot has, come after the last slot
@@ -532,9 +534,17 @@ Without --start, S is the slot with which the fewest slots of the first period
 of FEED differ from CYCLE, the first of several.
 
 With --all, FEED is judged to its end, and each breach of the rule has a line.
-With --every, there is a line of state after every FIELDS fields, for logs. With
---rows, the rule is that by rows: of K successive transmissions of a row at
-least one is received whole, and others may be lost.
+With --every, there is a line of state after every FIELDS fields, for logs.
+
+With --rows, the rule is that by rows, for receivers that refuse a row with a
+wrong byte. A packet may be lost, except page headers and X/27/0 of a magazine
+of SERVICE. Of K successive transmissions of a row that a viewer sees, at least
+one is received whole. A yes means that each such receiver shows each page, and
+the text of its header too if the latest headers come right. The lines are then
+  yes start S slots N lost L
+      L packets were lost
+  no repeat PAGE row R slot I start S
+      K successive transmissions of this row did not come whole, at last slot I
 
 Statuses:
   0  yes

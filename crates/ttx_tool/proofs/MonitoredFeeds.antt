@@ -1,25 +1,36 @@
 -- What is told of a feed once the three files are read.
-use Rattle.std.proofs.Common.{ℕ, List, Option, Some, None, Result, Ok, Err, inr}
+use Rattle.std.proofs.Common.{◌≡◌, ◌⊎◌, ℕ, zero, suc, ◌-◌, ◌^◌, ◌<◌, ◌≤◌, Bool, true, false, List, length, Option, Some, None, Result, Ok, Err, ◌++◌, append_assoc, sym, subst, inl, inr, arith}
 use Rattle.std.specs.Prelude.{IfSome}
+use Rattle.std.specs.Io.KnownBytes.{Appends}
 use Rattle.ttx_cycle.specs.Cycles.{slots_of}
+use Rattle.ttx_cycle.specs.Files.{IsPacketFile}
 use Rattle.ttx_certificate.specs.Certificates.{fields_of}
+use Rattle.ttx_certificate.specs.Entries.{CertificateFields, certificate_at}
 use Rattle.ttx_files.specs.Inputs.{ReadsInputs}
+use Rattle.ttx_files.specs.Texts.{IsServiceText, IsCertificateText}
 use Rattle.ttx_files.specs.declared.faults.FilesFault.TheVariants.{Cycle, Service, Certificate, Read, TooLong, Write, NoMemory}
 use Rattle.ttx_files.specs.declared.readers.Inputs.{Inputs}
 use Rattle.ttx_files.specs.declared.told.Told.{Told}
-use Rattle.ttx_source.specs.Services.{pages_of}
+use Rattle.ttx_source.specs.Services.{ServiceFields, pages_of}
 use Rattle.ttx_witness.specs.Certificates.{certificate_of}
-use Rattle.ttx_monitor.specs.FeedReports.{ReportsFeed}
+use Rattle.ttx_monitor.specs.FeedLines.{yes_text, rest_text, IsFeedTold}
+use Rattle.ttx_monitor.specs.FeedReports.{telling_for, ReportsFeed}
+use Rattle.ttx_monitor.specs.Summaries.{sum_text}
+use Rattle.ttx_monitor.specs.declared.verdict.FeedVerdict.{FeedVerdict}
+use Rattle.ttx_monitor.specs.declared.verdict.FeedVerdict.TheVariants.{Unlike, Yes, No, Shifted}
+use Rattle.ttx_row_monitor.specs.RowLines.{IsRowTold}
+use Rattle.ttx_row_monitor.specs.declared.verdict.RowVerdict.{RowVerdict}
+use Rattle.ttx_row_monitor.specs.declared.verdict.RowVerdict.TheVariants as row
 use Rattle.ttx_monitor.specs.declared.asked.Asked.{Asked}
-use Rattle.ttx_tool.specs.MonitorReports.{IsReportedAs, MonitorsLines}
-use Rattle.ttx_tool.specs.Monitor.{IsTelling, TellsFeed, IsFaultOfFeed, MonitorsText}
+use Rattle.ttx_tool.specs.MonitorReports.{report_status, IsReportedAs, MonitorsLines, MeansReported}
+use Rattle.ttx_tool.specs.Monitor.{feed_status, row_status, IsTelling, TellsFeed, IsFaultOfFeed, MonitorsText, Monitors, MeansReceived}
 use Rattle.ttx_tool.specs.declared.faults.ToolFault.{ToolFault}
 use Rattle.ttx_tool.specs.declared.faults.ToolFault.TheVariants.{Files, Plan, Class, Same, Counter, Feed}
 
-module _ (inputs : Inputs) (named : Option ℕ) where
+module _ (inputs : Inputs) (by_rows : Bool) (named : Option ℕ) where
   told_of : (a b c d : List ℕ) (result : Result (Told ℕ) ToolFault) → ReadsInputs a b c (Ok inputs) →
-      TellsFeed (IsTelling (slots_of inputs.cycle) inputs.service (fields_of inputs.certificate) named d) result → IsFaultOfFeed result →
-      MonitorsText a b c named d result
+      TellsFeed (IsTelling by_rows (slots_of inputs.cycle) inputs.service (fields_of inputs.certificate) named d) result → IsFaultOfFeed result →
+      MonitorsText by_rows a b c named d result
   told_of a b c d (Ok told) read is own = record {
     slots = slots_of inputs.cycle;
     service = inputs.service;
@@ -44,13 +55,160 @@ module _ (inputs : Inputs) (named : Option ℕ) where
 
   pub monitored_of : (result : Result (Told ℕ) ToolFault) (a b c d : Option (List ℕ)) →
       IfSome a (λ x. IfSome b (λ y. IfSome c (λ z. ReadsInputs x y z (Ok inputs)))) →
-      IfSome d (λ u. TellsFeed (IsTelling (slots_of inputs.cycle) inputs.service (fields_of inputs.certificate) named u) result) → IsFaultOfFeed result →
-      IfSome a (λ x. IfSome b (λ y. IfSome c (λ z. IfSome d (λ u. MonitorsText x y z named u result))))
+      IfSome d (λ u. TellsFeed (IsTelling by_rows (slots_of inputs.cycle) inputs.service (fields_of inputs.certificate) named u) result) → IsFaultOfFeed result →
+      IfSome a (λ x. IfSome b (λ y. IfSome c (λ z. IfSome d (λ u. MonitorsText by_rows x y z named u result))))
   monitored_of result (Some a) (Some b) (Some c) (Some d) read is own = told_of a b c d result read is own
   monitored_of result (Some a) (Some b) (Some c) None read is own = tt
   monitored_of result (Some a) (Some b) None d read is own = tt
   monitored_of result (Some a) None c d read is own = tt
   monitored_of result None b c d read is own = tt
+
+ended_so : (rest : ℕ) (tail : List ℕ) (feed : List (List ℕ)) → ((rest < 42) × (length tail ≡ rest)) ⊎ (2 ^ 64 - 1 ≤ length feed) →
+    (length tail < 42) ⊎ (2 ^ 64 - 1 ≤ length feed)
+ended_so rest tail feed (inl e) = inl (let few = e.0 in let is = e.1 in omega arith)
+ended_so rest tail feed (inr long) = inr long
+
+-- a yes is one of a verdict
+module _ (a b c : List ℕ) (named : Option ℕ) (d : List ℕ) (old new : Option (List ℕ)) (slots : List (List ℕ)) (service : ServiceFields)
+    (w : CertificateFields) (cycle_is : IsPacketFile a slots) (service_is : IsServiceText b service) (certificate_is : IsCertificateText c w)
+    (text : List ℕ) (out : Appends old new text) where
+  bytes_mean : (verdict : FeedVerdict) → IsFeedTold slots (pages_of service) (certificate_at w) named d verdict text → zero ≡ feed_status verdict →
+      MeansReceived false a b c d old new (Ok zero)
+  bytes_mean (Unlike unlike) told is = absurd (omega arith)
+  bytes_mean (No start slot breach) told is = absurd (omega arith)
+  bytes_mean (Shifted start slot by count) told is = absurd (omega arith)
+  bytes_mean (Yes start count wrong streak rest) told is =
+      let h = told.exact.2 in (
+        start,
+        count,
+        wrong,
+        streak,
+        rest,
+        subst (Appends old new) told.text_is out,
+        record {
+          slots = slots;
+          service = service;
+          w = w;
+          cycle_is = cycle_is;
+          service_is = service_is;
+          certificate_is = certificate_is;
+          received = h.feed;
+          rest = h.tail;
+          same = h.same;
+          all = ended_so rest h.tail h.feed h.ended;
+          within = h.within.pages;
+          seen = h.seen;
+        },
+      )
+
+  rows_mean : (verdict : RowVerdict) → IsRowTold slots (pages_of service) (certificate_at w) named d verdict text → zero ≡ row_status verdict →
+      MeansReceived true a b c d old new (Ok zero)
+  rows_mean (row.Unlike unlike) told is = absurd (omega arith)
+  rows_mean (row.No start slot breach) told is = absurd (omega arith)
+  rows_mean (row.Shifted start slot by count) told is = absurd (omega arith)
+  rows_mean (row.Yes start count lost rest) told is =
+      let h = told.exact.2 in (
+        start,
+        count,
+        lost,
+        rest,
+        subst (Appends old new) told.text_is out,
+        record {
+          slots = slots;
+          service = service;
+          w = w;
+          cycle_is = cycle_is;
+          service_is = service_is;
+          certificate_is = certificate_is;
+          received = h.feed;
+          rest = h.tail;
+          same = h.same;
+          all = ended_so rest h.tail h.feed h.ended;
+          within = h.received;
+          seen = h.seen;
+        },
+      )
+
+pub means : (by_rows : Bool) (a b c : List ℕ) (named : Option ℕ) (d : List ℕ) (old new : Option (List ℕ)) (result : Result ℕ ToolFault) →
+    Monitors by_rows a b c named d old new result → MeansReceived by_rows a b c d old new result
+means false a b c named d old new (Ok zero) m =
+    let i = m.1 in
+    bytes_mean a b c named d old new i.slots i.service i.w i.cycle_is i.service_is i.certificate_is m.0 m.2 i.told.0 i.told.1 i.told.2
+means true a b c named d old new (Ok zero) m =
+    let i = m.1 in
+    rows_mean a b c named d old new i.slots i.service i.w i.cycle_is i.service_is i.certificate_is m.0 m.2 i.told.0 i.told.1 i.told.2
+means false a b c named d old new (Ok (suc n)) m = tt
+means true a b c named d old new (Ok (suc n)) m = tt
+means false a b c named d old new (Err fault) m = tt
+means true a b c named d old new (Err fault) m = tt
+
+pub means_if : (by_rows : Bool) (named : Option ℕ) (old new : Option (List ℕ)) (result : Result ℕ ToolFault) (a b c d : Option (List ℕ)) →
+    IfSome a (λ x. IfSome b (λ y. IfSome c (λ z. IfSome d (λ u. Monitors by_rows x y z named u old new result)))) →
+    IfSome a (λ x. IfSome b (λ y. IfSome c (λ z. IfSome d (λ u. MeansReceived by_rows x y z u old new result))))
+means_if by_rows named old new result (Some a) (Some b) (Some c) (Some d) m = means by_rows a b c named d old new result m
+means_if by_rows named old new result (Some a) (Some b) (Some c) None m = tt
+means_if by_rows named old new result (Some a) (Some b) None d m = tt
+means_if by_rows named old new result (Some a) None c d m = tt
+means_if by_rows named old new result None b c d m = tt
+
+-- the same of a report
+reports_mean : (a b c d : List ℕ) (asked : Asked) (old new : Option (List ℕ)) (slots : List (List ℕ)) (service : ServiceFields) (w : CertificateFields) →
+    IsPacketFile a slots → IsServiceText b service → IsCertificateText c w → (verdict : Option FeedVerdict) → zero ≡ report_status verdict →
+    ReportsFeed slots (pages_of service) (certificate_at w) asked d old new (Ok verdict) → MeansReported a b c d old new (Ok zero)
+reports_mean a b c d asked old new slots service w cycle_is service_is certificate_is None is r = absurd (omega arith)
+reports_mean a b c d asked old new slots service w cycle_is service_is certificate_is (Some (No start slot breach)) is r = absurd (omega arith)
+reports_mean a b c d asked old new slots service w cycle_is service_is certificate_is (Some (Shifted start slot by count)) is r = absurd (omega arith)
+reports_mean a b c d asked old new slots service w cycle_is service_is certificate_is (Some (Unlike unlike)) is r = absurd (omega arith)
+reports_mean a b c d asked old new slots service w cycle_is service_is certificate_is (Some (Yes start count wrong streak rest)) is (inl none) =
+    absurd none
+reports_mean a b c d asked old new slots service w cycle_is service_is certificate_is (Some (Yes start count wrong streak rest)) is (inr (inl other)) =
+    absurd (unlike other.2.0)
+  where
+    unlike : Some (Yes start count wrong streak rest) ≡ Some (Unlike other.0) → ⊥
+    unlike e = cc
+reports_mean a b c d asked old new slots service w cycle_is service_is certificate_is (Some (Yes start count wrong streak rest)) is (inr (inr r)) =
+    let g = telling_for slots (pages_of service) (certificate_at w) asked r.0 in
+    let e = r.3 in
+    let h = e.3.said.1 in (
+      e.0,
+      sum_text g e.1,
+      start,
+      count,
+      wrong,
+      streak,
+      rest,
+      subst (Appends old new) (sym (append_assoc e.0 (yes_text start count wrong streak ++ rest_text rest) (sum_text g e.1))) e.4,
+      record {
+        slots = slots;
+        service = service;
+        w = w;
+        cycle_is = cycle_is;
+        service_is = service_is;
+        certificate_is = certificate_is;
+        received = h.feed;
+        rest = h.tail;
+        same = h.same;
+        all = ended_so rest h.tail h.feed h.ended;
+        within = h.within.pages;
+        seen = h.seen;
+      },
+    )
+
+pub report_means : (a b c d : List ℕ) (asked : Asked) (old new : Option (List ℕ)) (result : Result ℕ ToolFault) →
+    MonitorsLines a b c asked d old new result → MeansReported a b c d old new result
+report_means a b c d asked old new (Ok zero) (inl refused) = absurd refused.0
+report_means a b c d asked old new (Ok zero) (inr m) = reports_mean a b c d asked old new m.0 m.1 m.2 m.3 m.4 m.5 m.6.0 m.6.1 m.6.2
+report_means a b c d asked old new (Ok (suc n)) m = tt
+report_means a b c d asked old new (Err fault) m = tt
+
+pub report_means_if : (asked : Asked) (old new : Option (List ℕ)) (result : Result ℕ ToolFault) (a b c d : Option (List ℕ)) →
+    IfSome a (λ x. IfSome b (λ y. IfSome c (λ z. IfSome d (λ u. MonitorsLines x y z asked u old new result)))) →
+    IfSome a (λ x. IfSome b (λ y. IfSome c (λ z. IfSome d (λ u. MeansReported x y z u old new result))))
+report_means_if asked old new result (Some a) (Some b) (Some c) (Some d) m = report_means a b c d asked old new result m
+report_means_if asked old new result (Some a) (Some b) (Some c) None m = tt
+report_means_if asked old new result (Some a) (Some b) None d m = tt
+report_means_if asked old new result (Some a) None c d m = tt
+report_means_if asked old new result None b c d m = tt
 
 module _ (inputs : Inputs) (asked : Asked) (old new : Option (List ℕ)) (result : Result ℕ ToolFault) where
   pub lines_of : (a b c d : Option (List ℕ)) → IfSome a (λ x. IfSome b (λ y. IfSome c (λ z. ReadsInputs x y z (Ok inputs)))) →

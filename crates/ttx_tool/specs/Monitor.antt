@@ -1,23 +1,32 @@
 -- What `monitor` writes for a packet file, the text of a service, that of a certificate, and a feed.
 --
---   feed_status             0 for a yes, 1 for a no
---   IsTelling, TellsFeed    the text and the status for a feed of what the three files say; what is answered for the feed
+--   feed_status, row_status         0 for a yes, 1 for a no
+--   IsTelling, TellsFeed    the text and the status for a feed of what the three files say, by rows or by bytes; what is answered for the feed
 --   IsFaultOfFeed           a fault is that of a read of the feed, or want of memory
 --   IsMonitored             the same of the four files
 --   IsNotMonitored, MonitorsText    why there is no verdict; what is answered for the four files
 --   Monitors                what was written at each answer
-use Rattle.std.specs.Prelude.{◌≡◌, ℕ, ◌<◌, List, length, take, string_bytes, ⊤, Option, Result, Ok, Err}
+--   IsWellReceived, IsWellReceivedByRows    the feed is a reception within the error rule, from a slot of the cycle on, and who sees each page
+--   MeansReceived           what a yes means
+use Rattle.std.specs.Prelude.{◌≡◌, ◌⊎◌, ℕ, zero, ◌-◌, ◌^◌, ◌<◌, ◌≤◌, Bool, true, false, List, ◌++◌, length, take, string_bytes, ⊤, Option, Result, Ok, Err}
 use Rattle.std.specs.Io.KnownBytes.{Appends, Keeps}
 use Rattle.ttx_certificate.specs.Entries.{CertificateFields, certificate_at}
-use Rattle.ttx_cycle.specs.Files.{IsPacketFile}
+use Rattle.ttx_cycle.specs.Files.{IsPacketFile, file_of}
 use Rattle.ttx_files.specs.Inputs.{IsRefused}
 use Rattle.ttx_files.specs.Texts.{IsServiceText, IsCertificateText}
 use Rattle.ttx_files.specs.declared.faults.FilesFault.TheVariants.{Write, NoMemory}
 use Rattle.ttx_files.specs.declared.told.Told.{Told}
-use Rattle.ttx_monitor.specs.FeedLines.{IsFeedTold}
+use Rattle.ttx_monitor.specs.FeedLines.{yes_text, rest_text, IsFeedTold}
+use Rattle.ttx_monitor.specs.Laws.{IsSeenIn}
+use Rattle.ttx_monitor.specs.Watching.{watched, AllReceived}
 use Rattle.ttx_monitor.specs.declared.verdict.FeedVerdict.{FeedVerdict}
 use Rattle.ttx_monitor.specs.declared.verdict.FeedVerdict.TheVariants.{Unlike, Yes, No, Shifted}
+use Rattle.ttx_row_monitor.specs.Laws.{AllReceivedByRows, IsSeenByRowsIn}
+use Rattle.ttx_row_monitor.specs.RowLines as rows
+use Rattle.ttx_row_monitor.specs.declared.verdict.RowVerdict.{RowVerdict}
+use Rattle.ttx_row_monitor.specs.declared.verdict.RowVerdict.TheVariants as row
 use Rattle.ttx_source.specs.Services.{ServiceFields, pages_of}
+use Rattle.ttx_witness.specs.Coverage.{Accepts, limit}
 use Rattle.ttx_tool.specs.declared.faults.ToolFault.{ToolFault}
 use Rattle.ttx_tool.specs.declared.faults.ToolFault.TheVariants.{Files, Feed}
 
@@ -27,10 +36,18 @@ feed_status (Yes start slots wrong streak rest) = 0
 feed_status (No start slot breach) = 1
 feed_status (Shifted start slot by count) = 1
 
+abbrev pub row_status : RowVerdict → ℕ
+row_status (row.Unlike unlike) = 1
+row_status (row.Yes start slots lost rest) = 0
+row_status (row.No start slot breach) = 1
+row_status (row.Shifted start slot by count) = 1
+
 -- the text of the verdict on a feed, and its status
-abbrev pub IsTelling : List (List ℕ) → ServiceFields → CertificateFields → Option ℕ → List ℕ → List ℕ → ℕ → Type 0
-IsTelling slots service w named feed text status =
+abbrev pub IsTelling : Bool → List (List ℕ) → ServiceFields → CertificateFields → Option ℕ → List ℕ → List ℕ → ℕ → Type 0
+IsTelling false slots service w named feed text status =
     (verdict : FeedVerdict) × IsFeedTold slots (pages_of service) (certificate_at w) named feed verdict text × (status ≡ feed_status verdict)
+IsTelling true slots service w named feed text status =
+    (verdict : RowVerdict) × rows.IsRowTold slots (pages_of service) (certificate_at w) named feed verdict text × (status ≡ row_status verdict)
 
 abbrev pub TellsFeed : (List ℕ → ℕ → Type 0) → Result (Told ℕ) ToolFault → Type 0
 TellsFeed Telling (Ok told) = Telling (string_bytes told.line) told.verdict
@@ -44,14 +61,14 @@ IsFaultOfFeed (Err (Files NoMemory)) = ⊤
 IsFaultOfFeed (Err _) = ⊥
 
 -- the first three are a packet file, the text of a service and that of a certificate
-pub record IsMonitored (a b c : List ℕ) (named : Option ℕ) (feed text : List ℕ) (status : ℕ) : Type 0 where
+pub record IsMonitored (by_rows : Bool) (a b c : List ℕ) (named : Option ℕ) (feed text : List ℕ) (status : ℕ) : Type 0 where
   pub slots : List (List ℕ)
   pub service : ServiceFields
   pub w : CertificateFields
   pub cycle_is : IsPacketFile a slots
   pub service_is : IsServiceText b service
   pub certificate_is : IsCertificateText c w
-  pub told : IsTelling slots service w named feed text status
+  pub told : IsTelling by_rows slots service w named feed text status
 
 -- one of the three is refused, or all are right and the feed fails
 abbrev pub IsNotMonitored : List ℕ → List ℕ → List ℕ → ToolFault → Type 0
@@ -61,13 +78,56 @@ IsNotMonitored a b c Feed =
     × IsCertificateText c w
 IsNotMonitored a b c _ = ⊥
 
-abbrev pub MonitorsText : List ℕ → List ℕ → List ℕ → Option ℕ → List ℕ → Result (Told ℕ) ToolFault → Type 0
-MonitorsText a b c named feed (Ok told) = IsMonitored a b c named feed (string_bytes told.line) told.verdict
-MonitorsText a b c named feed (Err fault) = IsNotMonitored a b c fault
+abbrev pub MonitorsText : Bool → List ℕ → List ℕ → List ℕ → Option ℕ → List ℕ → Result (Told ℕ) ToolFault → Type 0
+MonitorsText by_rows a b c named feed (Ok told) = IsMonitored by_rows a b c named feed (string_bytes told.line) told.verdict
+MonitorsText by_rows a b c named feed (Err fault) = IsNotMonitored a b c fault
 
 -- Ok: the text went out. A write fault: its first `written` bytes. Else nothing, and why there is no verdict.
-abbrev pub Monitors : List ℕ → List ℕ → List ℕ → Option ℕ → List ℕ → Option (List ℕ) → Option (List ℕ) → Result ℕ ToolFault → Type 0
-Monitors a b c named feed old new (Ok status) = (text : List ℕ) × IsMonitored a b c named feed text status × Appends old new text
-Monitors a b c named feed old new (Err (Files (Write written))) =
-    (text : List ℕ) × (status : ℕ) × IsMonitored a b c named feed text status × (written < length text) × Appends old new (take written text)
-Monitors a b c named feed old new (Err fault) = IsNotMonitored a b c fault × Keeps old new
+abbrev pub Monitors : Bool → List ℕ → List ℕ → List ℕ → Option ℕ → List ℕ → Option (List ℕ) → Option (List ℕ) → Result ℕ ToolFault → Type 0
+Monitors by_rows a b c named feed old new (Ok status) =
+    (text : List ℕ) × IsMonitored by_rows a b c named feed text status × Appends old new text
+Monitors by_rows a b c named feed old new (Err (Files (Write written))) =
+    (text : List ℕ) × (status : ℕ) × IsMonitored by_rows a b c named feed text status × (written < length text) × Appends old new (take written text)
+Monitors by_rows a b c named feed old new (Err fault) = IsNotMonitored a b c fault × Keeps old new
+
+-- These are the slots of the feed from its first to its last. They are a reception within the error rule for each page of the service, from
+-- slot `start` of the cycle on. If the cycle is accepted with the certificate and the feed reaches the deadline, each permitted receiver of it
+-- shows each page.
+pub record IsWellReceived (a b c feed : List ℕ) (start : ℕ) : Type 0 where
+  pub slots : List (List ℕ)
+  pub service : ServiceFields
+  pub w : CertificateFields
+  pub cycle_is : IsPacketFile a slots
+  pub service_is : IsServiceText b service
+  pub certificate_is : IsCertificateText c w
+  pub received : List (List ℕ)
+  pub rest : List ℕ
+  pub same : feed ≡ file_of received ++ rest
+  pub all : (length rest < 42) ⊎ (2 ^ 64 - 1 ≤ length received)
+  pub within : AllReceived (watched slots (pages_of service) (certificate_at w).repeat start) received
+  pub seen : Accepts slots (pages_of service) (certificate_at w) → limit (certificate_at w) ≤ length received →
+      IsSeenIn (watched slots (pages_of service) (certificate_at w).repeat start) received (certificate_at w)
+
+-- the same by rows, for receivers that refuse rows
+pub record IsWellReceivedByRows (a b c feed : List ℕ) (start : ℕ) : Type 0 where
+  pub slots : List (List ℕ)
+  pub service : ServiceFields
+  pub w : CertificateFields
+  pub cycle_is : IsPacketFile a slots
+  pub service_is : IsServiceText b service
+  pub certificate_is : IsCertificateText c w
+  pub received : List (List ℕ)
+  pub rest : List ℕ
+  pub same : feed ≡ file_of received ++ rest
+  pub all : (length rest < 42) ⊎ (2 ^ 64 - 1 ≤ length received)
+  pub within : AllReceivedByRows (watched slots (pages_of service) (certificate_at w).repeat start) received
+  pub seen : Accepts slots (pages_of service) (certificate_at w) → limit (certificate_at w) ≤ length received →
+      IsSeenByRowsIn (watched slots (pages_of service) (certificate_at w).repeat start) received (certificate_at w)
+
+-- the status 0 goes with a line that names the start
+abbrev pub MeansReceived : Bool → List ℕ → List ℕ → List ℕ → List ℕ → Option (List ℕ) → Option (List ℕ) → Result ℕ ToolFault → Type 0
+MeansReceived false a b c feed old new (Ok zero) =
+    (start slots wrong streak rest : ℕ) × Appends old new (yes_text start slots wrong streak ++ rest_text rest) × IsWellReceived a b c feed start
+MeansReceived true a b c feed old new (Ok zero) =
+    (start slots lost rest : ℕ) × Appends old new (rows.yes_text start slots lost ++ rest_text rest) × IsWellReceivedByRows a b c feed start
+MeansReceived by_rows a b c feed old new _ = ⊤

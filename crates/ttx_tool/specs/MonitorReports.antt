@@ -4,21 +4,23 @@
 --   IsReportedAs            the answer is that of a feed's report
 --   IsRefusedWith           the answer is a refusal of one of the three files
 --   MonitorsLines           what was written at each answer
-use Rattle.std.specs.Prelude.{◌≡◌, ◌⊎◌, ℕ, List, Option, Some, None, Result, Ok, Err}
-use Rattle.std.specs.Io.KnownBytes.{Keeps}
+--   MeansReported           what a yes means
+use Rattle.std.specs.Prelude.{◌≡◌, ◌⊎◌, ℕ, zero, List, ◌++◌, ⊤, Option, Some, None, Result, Ok, Err}
+use Rattle.std.specs.Io.KnownBytes.{Appends, Keeps}
 use Rattle.ttx_certificate.specs.Entries.{CertificateFields, certificate_at}
 use Rattle.ttx_cycle.specs.Files.{IsPacketFile}
 use Rattle.ttx_files.specs.Inputs.{IsRefused}
 use Rattle.ttx_files.specs.Texts.{IsServiceText, IsCertificateText}
 use Rattle.ttx_files.specs.declared.faults.FilesFault.TheVariants.{Write, NoMemory}
 use Rattle.ttx_files.specs.declared.faults.FeedFault.TheVariants as feed
+use Rattle.ttx_monitor.specs.FeedLines.{yes_text, rest_text}
 use Rattle.ttx_monitor.specs.FeedReports.{ReportsFeed}
 use Rattle.ttx_monitor.specs.declared.asked.Asked.{Asked}
 use Rattle.ttx_monitor.specs.declared.following.FollowFault.{FollowFault}
 use Rattle.ttx_monitor.specs.declared.following.FollowFault.TheVariants as follow
 use Rattle.ttx_monitor.specs.declared.verdict.FeedVerdict.{FeedVerdict}
 use Rattle.ttx_source.specs.Services.{ServiceFields, pages_of}
-use Rattle.ttx_tool.specs.Monitor.{feed_status}
+use Rattle.ttx_tool.specs.Monitor.{feed_status, IsWellReceived}
 use Rattle.ttx_tool.specs.declared.faults.ToolFault.{ToolFault}
 use Rattle.ttx_tool.specs.declared.faults.ToolFault.TheVariants.{Files, Feed}
 
@@ -44,3 +46,10 @@ MonitorsLines a b c asked feed old new result =
     (IsRefusedWith a b c result × Keeps old new)
     ⊎ ((slots : List (List ℕ)) × (service : ServiceFields) × (w : CertificateFields) × IsPacketFile a slots × IsServiceText b service
     × IsCertificateText c w × IsReportedAs (ReportsFeed slots (pages_of service) (certificate_at w) asked feed old new) result)
+
+-- the status 0 goes with a yes line that names the start, after lines of state and before the last one
+abbrev pub MeansReported : List ℕ → List ℕ → List ℕ → List ℕ → Option (List ℕ) → Option (List ℕ) → Result ℕ ToolFault → Type 0
+MeansReported a b c feed old new (Ok zero) =
+    (before after : List ℕ) × (start slots wrong streak rest : ℕ)
+    × Appends old new (before ++ (yes_text start slots wrong streak ++ rest_text rest) ++ after) × IsWellReceived a b c feed start
+MeansReported a b c feed old new _ = ⊤

@@ -20,6 +20,7 @@ pub mod find_deadline;
 pub mod inspect;
 pub mod monitor;
 pub mod monitor_reports;
+mod monitor_rows;
 pub mod pages;
 pub mod plan;
 pub mod plan_spread;

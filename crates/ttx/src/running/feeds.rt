@@ -3,19 +3,15 @@
 use super::Outcome;
 use super::inputs::{Claim, buffered};
 use crate::devices::{Input, open_input};
-use crate::reports::{not_built, status_of};
+use crate::reports::status_of;
 use std::io;
 use ttx_arguments::MonitorOrder;
 use ttx_cycle::Counted;
 use ttx_monitor::Asked;
+use ttx_tool::commands::monitor::Judged;
 use ttx_tool::{ToolFault, commands};
 
-fn monitor_feed(
-    rt: &HostRuntime,
-    claim: Claim,
-    feed: Input,
-    start: Option<u32>,
-) -> Result<u8, ToolFault> {
+fn monitor_feed(rt: &HostRuntime, claim: Claim, feed: Input, how: Judged) -> Result<u8, ToolFault> {
     let mut readers = claim.readers(rt)?;
     let mut feed = buffered(rt, feed)?;
     let mut writer = Counted::new(io::writer(rt));
@@ -24,7 +20,7 @@ fn monitor_feed(
         &mut readers.cycle,
         &mut readers.service,
         &mut readers.text,
-        start,
+        how,
         &mut feed,
         &mut writer,
     )
@@ -47,13 +43,14 @@ fn report_feed(rt: &HostRuntime, claim: Claim, feed: Input, asked: Asked) -> Res
 
 /// Opens the cycle, the service, the certificate and the feed, and judges the feed, or reports it while it comes.
 pub fn monitor(rt: &HostRuntime, order: &MonitorOrder<'_>) -> Outcome {
-    if order.rows {
-        return Ok(not_built(rt));
-    }
     let claim = Claim::open(rt, order.cycle, order.service, order.certificate)?;
     let feed = open_input(rt, order.feed)?;
     if !order.all && order.every.is_none() {
-        return Ok(status_of(rt, monitor_feed(rt, claim, feed, order.start)));
+        let how = Judged {
+            start: order.start,
+            by_rows: order.rows,
+        };
+        return Ok(status_of(rt, monitor_feed(rt, claim, feed, how)));
     }
     let asked = Asked {
         start: order.start,

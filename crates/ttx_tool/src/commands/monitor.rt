@@ -1,14 +1,15 @@
-//! `monitor`: whether what a receiver got of a cycle stays within the error rule.
+//! `monitor`: whether what a receiver got of a cycle stays within the error rule, by bytes or by rows.
 
-ghost use Rattle.std.specs.Prelude.{◌≡◌, ◌∷◌, [], IfSome};
+ghost use Rattle.std.specs.Prelude.{◌≡◌, ◌∷◌, [], false, IfSome};
 ghost use Rattle.ttx_certificate.specs.Certificates.{fields_of};
 ghost use Rattle.ttx_cycle.specs.Counters.{inner_of, faults_of};
 ghost use Rattle.ttx_cycle.specs.Cycles.{slots_of};
 ghost use Rattle.ttx_files.specs.Answers.{IsUntouched};
 ghost use Rattle.ttx_files.specs.Devices.{AtCycle, AtService, AtCertificate, AtFeed, input, output};
 ghost use Rattle.ttx_tool.specs.Devices.{is_tool_write, Fails, Reads};
-ghost use Rattle.ttx_tool.specs.Monitor.{feed_status, IsTelling, IsFaultOfFeed, TellsFeed, MonitorsText, Monitors};
+ghost use Rattle.ttx_tool.specs.Monitor.{feed_status, IsTelling, IsFaultOfFeed, TellsFeed, MonitorsText, Monitors, MeansReceived};
 
+use super::monitor_rows::tell_rows;
 use super::reports::write_text;
 use crate::faults::ToolFault;
 use std::alloc::Global;
@@ -27,15 +28,22 @@ pub(super) fn feed_status(verdict: FeedVerdict) -> u8
     }
 }
 
-// The text of the verdict on a feed, and its status.
-fn tell<R: Read>(
+/// How a feed is judged: from which slot of the cycle on, if that is named, and whether by rows.
+#[derive(Clone, Copy)]
+pub struct Judged {
+    pub start: Option<u32>,
+    pub by_rows: bool,
+}
+
+// The text of the verdict on a feed by bytes, and its status.
+fn tell_bytes<R: Read>(
     alloc: Global,
     inputs: &Inputs,
     named: Option<u32>,
     feed: &mut Counted<R>,
 ) -> Result<Told<u8>, ToolFault>
     ensures bytes { IfSome (R.remaining (inner_of feed.old)) (λ d. TellsFeed
-        (IsTelling (slots_of inputs.now.cycle) inputs.now.service (fields_of inputs.now.certificate) named d) result) }
+        (IsTelling false (slots_of inputs.now.cycle) inputs.now.service (fields_of inputs.now.certificate) named d) result) }
     ensures own { IsFaultOfFeed result }
     ensures faults { Fails (input AtFeed (R.remaining (inner_of feed.old)) (faults_of feed.old) (faults_of feed.new) ∷ []) result }
 {
@@ -49,19 +57,38 @@ fn tell<R: Read>(
     }
 }
 
+// The same by the rule that is asked for.
+fn tell<R: Read>(
+    alloc: Global,
+    inputs: &Inputs,
+    how: Judged,
+    feed: &mut Counted<R>,
+) -> Result<Told<u8>, ToolFault>
+    ensures bytes { IfSome (R.remaining (inner_of feed.old)) (λ d. TellsFeed
+        (IsTelling how.by_rows (slots_of inputs.now.cycle) inputs.now.service (fields_of inputs.now.certificate) how.start d) result) }
+    ensures own { IsFaultOfFeed result }
+    ensures faults { Fails (input AtFeed (R.remaining (inner_of feed.old)) (faults_of feed.old) (faults_of feed.new) ∷ []) result }
+{
+    if how.by_rows {
+        tell_rows(alloc, inputs, how.start, feed)
+    } else {
+        tell_bytes(alloc, inputs, how.start, feed)
+    }
+}
+
 // The same of the three files and the feed.
 fn monitor_files<A: Read, B: Read, C: Read, R: Read>(
     alloc: Global,
     cycle: &mut Counted<A>,
     service: &mut Counted<B>,
     certificate: &mut Counted<C>,
-    named: Option<u32>,
+    how: Judged,
     feed: &mut Counted<R>,
 ) -> Result<Told<u8>, ToolFault>
     ensures bytes { IfSome (A.remaining (inner_of cycle.old)) (λ a.
         IfSome (B.remaining (inner_of service.old)) (λ b.
         IfSome (C.remaining (inner_of certificate.old)) (λ c.
-        IfSome (R.remaining (inner_of feed.old)) (λ d. MonitorsText a b c named d result)))) }
+        IfSome (R.remaining (inner_of feed.old)) (λ d. MonitorsText how.by_rows a b c how.start d result)))) }
     ensures faults { Reads (input AtCycle (A.remaining (inner_of cycle.old)) (faults_of cycle.old) (faults_of cycle.new)
         ∷ input AtService (B.remaining (inner_of service.old)) (faults_of service.old) (faults_of service.new)
         ∷ input AtCertificate (C.remaining (inner_of certificate.old)) (faults_of certificate.old) (faults_of certificate.new)
@@ -71,12 +98,44 @@ fn monitor_files<A: Read, B: Read, C: Read, R: Read>(
         Ok(inputs) => inputs,
         Err(fault) => return Err(ToolFault::Files(fault)),
     };
-    tell(alloc, &inputs, named, feed)
+    tell(alloc, &inputs, how, feed)
+}
+
+// Writes the verdict on the feed of the four files.
+fn judge<A: Read, B: Read, C: Read, R: Read, W: Write>(
+    alloc: Global,
+    cycle: &mut Counted<A>,
+    service: &mut Counted<B>,
+    certificate: &mut Counted<C>,
+    how: Judged,
+    feed: &mut Counted<R>,
+    writer: &mut Counted<W>,
+) -> Result<u8, ToolFault>
+    ensures bytes { IfSome (A.remaining (inner_of cycle.old)) (λ a.
+        IfSome (B.remaining (inner_of service.old)) (λ b.
+        IfSome (C.remaining (inner_of certificate.old)) (λ c.
+        IfSome (R.remaining (inner_of feed.old)) (λ d.
+        Monitors how.by_rows a b c how.start d (W.contents (inner_of writer.old)) (W.contents (inner_of writer.new)) result)))) }
+    ensures faults { Fails (input AtCycle (A.remaining (inner_of cycle.old)) (faults_of cycle.old) (faults_of cycle.new)
+        ∷ input AtService (B.remaining (inner_of service.old)) (faults_of service.old) (faults_of service.new)
+        ∷ input AtCertificate (C.remaining (inner_of certificate.old)) (faults_of certificate.old) (faults_of certificate.new)
+        ∷ input AtFeed (R.remaining (inner_of feed.old)) (faults_of feed.old) (faults_of feed.new)
+        ∷ output (faults_of writer.old) (faults_of writer.new) ∷ []) result }
+    ensures untouched { IsUntouched is_tool_write result writer.old writer.new }
+{
+    let told = match monitor_files(alloc, cycle, service, certificate, how, feed) {
+        Ok(told) => told,
+        Err(fault) => return Err(fault),
+    };
+    write_text(writer, told.line.as_str(), told.verdict)
 }
 
 /// Reads a packet file, the text of a service and that of a certificate, in this order, and then a feed slot by slot, which begins with
-/// slot `named` of the cycle, or with the one that is found. Writes the text of the verdict on the feed: the status is 0 if it is yes,
-/// otherwise 1.
+/// the slot of the cycle that is named, or with the one that is found. Writes the text of the verdict on the feed, by the rule that is asked
+/// for: the status is 0 if it is yes, otherwise 1.
+///
+/// A yes means that the feed is a reception within the error rule, from the slot of the cycle that the line names on. If the certifier accepts
+/// the three files and the feed reaches the deadline, each permitted receiver of this feed shows each page.
 ///
 /// Nothing is written before everything is judged. After `Write` exactly the first `written` bytes of the text went out; after any other
 /// fault the writer is unchanged. `Feed` says that a read of the feed failed.
@@ -85,7 +144,7 @@ pub fn run<A: Read, B: Read, C: Read, R: Read, W: Write>(
     cycle: &mut Counted<A>,
     service: &mut Counted<B>,
     certificate: &mut Counted<C>,
-    named: Option<u32>,
+    how: Judged,
     feed: &mut Counted<R>,
     writer: &mut Counted<W>,
 ) -> Result<u8, ToolFault>
@@ -93,7 +152,12 @@ pub fn run<A: Read, B: Read, C: Read, R: Read, W: Write>(
         IfSome (B.remaining (inner_of service.old)) (λ b.
         IfSome (C.remaining (inner_of certificate.old)) (λ c.
         IfSome (R.remaining (inner_of feed.old)) (λ d.
-        Monitors a b c named d (W.contents (inner_of writer.old)) (W.contents (inner_of writer.new)) result)))) }
+        Monitors how.by_rows a b c how.start d (W.contents (inner_of writer.old)) (W.contents (inner_of writer.new)) result)))) }
+    ensures means { IfSome (A.remaining (inner_of cycle.old)) (λ a.
+        IfSome (B.remaining (inner_of service.old)) (λ b.
+        IfSome (C.remaining (inner_of certificate.old)) (λ c.
+        IfSome (R.remaining (inner_of feed.old)) (λ d.
+        MeansReceived how.by_rows a b c d (W.contents (inner_of writer.old)) (W.contents (inner_of writer.new)) result)))) }
     ensures faults { Fails (input AtCycle (A.remaining (inner_of cycle.old)) (faults_of cycle.old) (faults_of cycle.new)
         ∷ input AtService (B.remaining (inner_of service.old)) (faults_of service.old) (faults_of service.new)
         ∷ input AtCertificate (C.remaining (inner_of certificate.old)) (faults_of certificate.old) (faults_of certificate.new)
@@ -101,9 +165,5 @@ pub fn run<A: Read, B: Read, C: Read, R: Read, W: Write>(
         ∷ output (faults_of writer.old) (faults_of writer.new) ∷ []) result }
     ensures untouched { IsUntouched is_tool_write result writer.old writer.new }
 {
-    let told = match monitor_files(alloc, cycle, service, certificate, named, feed) {
-        Ok(told) => told,
-        Err(fault) => return Err(fault),
-    };
-    write_text(writer, told.line.as_str(), told.verdict)
+    judge(alloc, cycle, service, certificate, how, feed, writer)
 }

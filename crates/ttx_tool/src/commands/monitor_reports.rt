@@ -8,7 +8,7 @@ ghost use Rattle.ttx_monitor.specs.FeedReports.{ReportsFeed};
 ghost use Rattle.ttx_source.specs.Services.{pages_of};
 ghost use Rattle.ttx_witness.specs.Certificates.{certificate_of};
 ghost use Rattle.ttx_tool.specs.Devices.{Fails};
-ghost use Rattle.ttx_tool.specs.MonitorReports.{report_status, IsReportedAs, MonitorsLines};
+ghost use Rattle.ttx_tool.specs.MonitorReports.{report_status, IsReportedAs, MonitorsLines, MeansReported};
 
 use super::monitor::feed_status;
 use crate::faults::ToolFault;
@@ -54,7 +54,7 @@ fn report<R: Read, W: Write>(
 /// Reads a packet file, the text of a service and that of a certificate, in this order, and then a feed slot by slot, which begins with the
 /// slot of the cycle that is named, or with the one that is found. Reports the feed while it comes: each breach if `asked.all` says so,
 /// otherwise up to the first; and the state after each so many fields. At the end of the feed it writes the verdict, or how many breaches
-/// there were. The status is 0 if there is none, otherwise 1.
+/// there were. The status is 0 if there is none, otherwise 1. What a yes means is what it means in `monitor`.
 ///
 /// Nothing is written before the three files are read. After `Write` all earlier lines and exactly the first `written` bytes of the latest
 /// lines went out. `Feed` says that a read of the feed failed: all lines for the slots before it went out.
@@ -72,6 +72,11 @@ pub fn run<A: Read, B: Read, C: Read, R: Read, W: Write>(
         IfSome (C.remaining (inner_of certificate.old)) (λ c.
         IfSome (R.remaining (inner_of feed.old)) (λ d.
         MonitorsLines a b c asked d (W.contents (inner_of writer.old)) (W.contents (inner_of writer.new)) result)))) }
+    ensures means { IfSome (A.remaining (inner_of cycle.old)) (λ a.
+        IfSome (B.remaining (inner_of service.old)) (λ b.
+        IfSome (C.remaining (inner_of certificate.old)) (λ c.
+        IfSome (R.remaining (inner_of feed.old)) (λ d.
+        MeansReported a b c d (W.contents (inner_of writer.old)) (W.contents (inner_of writer.new)) result)))) }
     ensures faults { Fails (input AtCycle (A.remaining (inner_of cycle.old)) (faults_of cycle.old) (faults_of cycle.new)
         ∷ input AtService (B.remaining (inner_of service.old)) (faults_of service.old) (faults_of service.new)
         ∷ input AtCertificate (C.remaining (inner_of certificate.old)) (faults_of certificate.old) (faults_of certificate.new)

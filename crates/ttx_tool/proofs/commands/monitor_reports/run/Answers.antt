@@ -3,7 +3,7 @@ use Rattle.ttx_cycle.specs.Counters.{inner_of, faults_of}
 use Rattle.ttx_files.specs.Devices.{AtCycle, AtService, AtCertificate, AtFeed, input, output}
 use Rattle.ttx_tool.specs.declared.faults.ToolFault.TheVariants.{Files}
 use Rattle.ttx_tool.proofs.Devices.{refused, went_on}
-use Rattle.ttx_tool.proofs.MonitoredFeeds.{lines_of}
+use Rattle.ttx_tool.proofs.MonitoredFeeds.{lines_of, report_means_if}
 use Rattle.ttx_tool.proofs.commands.monitor_reports.run.Goals as goal
 
 pub returns-in-Err-clause-faults : goal.returns-in-Err-clause-faults
@@ -32,3 +32,9 @@ returns-clause-faults g c =
     (input AtFeed (g.R.Read.remaining (inner_of c.args.feed.now)) (faults_of c.args.feed.now) (faults_of c.report.new.feed)
     ∷ output (faults_of c.args.writer.now) (faults_of c.report.new.writer) ∷ []) c.report.result
     c.in-Ok.ensures.faults (c.in-Ok.ensures.right.0, (c.in-Ok.ensures.right.1, (c.in-Ok.ensures.right.2, tt))) c.report.ensures.faults
+
+pub returns-clause-means : goal.returns-clause-means
+returns-clause-means g c =
+    report_means_if c.args.asked (g.W.Write.contents (inner_of c.args.writer.now)) (g.W.Write.contents (inner_of c.report.new.writer))
+    c.report.result (g.A.Read.remaining (inner_of c.args.cycle.now)) (g.B.Read.remaining (inner_of c.args.service.now))
+    (g.C.Read.remaining (inner_of c.args.certificate.now)) (g.R.Read.remaining (inner_of c.args.feed.now)) (returns-clause-bytes g c)
