@@ -1,0 +1,7 @@
+use Rattle.ttx_document.proofs.Joins.{joined, more}
+use Rattle.ttx_failure.specs.Hits.{hit_item}
+use Rattle.ttx_failure.proofs.hits.push_hit_item.Goals as goal
+
+pub returns : goal.returns
+unfolding hit_item
+returns c = joined c.push_item_end.result _ _ _ _ _ (more _ _ _ _ _ c.in_ok-push_item_start.ensures c.in_ok-push_hit.ensures) c.push_item_end.ensures

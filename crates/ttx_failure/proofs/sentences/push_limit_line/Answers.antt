@@ -1,0 +1,5 @@
+use Rattle.ttx_document.proofs.Joins.{joined, more}
+use Rattle.ttx_failure.proofs.sentences.push_limit_line.Goals as goal
+
+pub returns : goal.returns
+returns c = joined c.push_line_end.result _ _ _ _ _ (more _ _ _ _ _ c.in_ok-push_line_start.ensures c.in_ok-push_deadline.ensures) c.push_line_end.ensures

@@ -1,0 +1,10 @@
+pub mod Forms
+pub mod Places
+pub mod NamedPackets
+pub mod Hits
+pub mod Choices
+pub mod Sentences
+pub mod Unlike
+pub mod Beside
+pub mod Figures
+pub mod Failures
