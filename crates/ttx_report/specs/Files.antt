@@ -25,7 +25,7 @@ abbrev pub marks_view : MarksValue → Marks
 marks_view m = record { cycle = m.cycle; service = m.service; certificate = m.certificate }
 
 unfoldable pub size_cell : ℕ → List ℕ → List ℕ
-size_cell count unit = codes "</td><td>" ++ decimal count ++ unit ++ codes "</td><td><code>"
+size_cell count unit = codes "</td><td>" ++ unit ++ decimal count ++ codes "</td><td><code>"
 
 unfoldable pub file_row : List ℕ → ℕ → List ℕ → List ℕ → List ℕ
 file_row name count unit digest =
@@ -36,8 +36,8 @@ files_start = codes "<table><tr><th>Input</th><th>Has</th><th>SHA-256</th></tr>\
 
 unfoldable pub file_rows : ℕ → ℕ → ℕ → Marks → List ℕ
 file_rows slots pages entries marks =
-    file_row (codes "packet file") slots (codes " slots") marks.cycle ++ file_row (codes "service text") pages (codes " pages") marks.service
-    ++ file_row (codes "certificate") entries (codes " entries") marks.certificate
+    file_row (codes "packet file") slots (codes "slots: ") marks.cycle ++ file_row (codes "service text") pages (codes "pages: ") marks.service
+    ++ file_row (codes "certificate") entries (codes "entries: ") marks.certificate
 
 unfoldable pub files_html : ℕ → ℕ → ℕ → Marks → List ℕ
 files_html slots pages entries marks =

@@ -1,3 +1,4 @@
+pub mod Dates
 pub mod Verdicts
 pub mod Waits
 pub mod Files

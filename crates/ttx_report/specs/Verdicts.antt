@@ -21,7 +21,7 @@ receivers_text Any = codes "every receiver that keeps the rules"
 receivers_text Clearing = codes "every receiver that keeps the rules and surely clears what it holds when a page is selected"
 
 unfoldable pub pages_text : ℕ → List ℕ
-pages_text pages = codes " shows each of the " ++ decimal pages ++ codes " pages of the service text as it was authored, at most "
+pages_text pages = codes " shows each page of the service text (" ++ decimal pages ++ codes " in all) as it was authored, at most "
 
 -- a field is two hundredths of a second
 unfoldable pub deadline_text : ℕ → List ℕ
@@ -37,7 +37,7 @@ yes_words w pages =
 unfoldable pub no_words : CertificateFields → ℕ → List ℕ
 no_words w pages =
     codes "<b>No</b>: it is not certain that " ++ shows_text w pages
-    ++ codes ". The line names the first reason. It is not yet a failure: ttx refute looks for one."
+    ++ codes ". The line above gives the first reason, which ttx explain explains. It does not prove a failure: ttx refute looks for one."
 
 unfoldable pub verdict_words : CertificateFields → ℕ → Verdict → List ℕ
 verdict_words w pages Yes = yes_words w pages
@@ -71,7 +71,7 @@ nearest_rows = codes "<table><tr><th>A decoder that</th><th>is covered by a yes<
 
 unfoldable pub further_rows : List ℕ
 further_rows =
-    codes "<tr><td>refuses a row with a wrong byte whole, or loses rows</td><td>if of as many successive transmissions of a row one arrives whole</td></tr>\n"
+    codes "<tr><td>refuses a row with a wrong byte whole, or loses rows</td><td>if one of K successive transmissions of a row arrives whole, K being the repeat count</td></tr>\n"
     ++ codes "<tr><td>stores characters whatever their parity</td><td>if no row arrives with a wrong character</td></tr>\n"
 
 unfoldable pub last_rows : List ℕ

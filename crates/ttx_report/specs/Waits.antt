@@ -40,7 +40,7 @@ abbrev pub waits_told : List PromisedWait → List PageWait
 waits_told all = map (λ one. one.told) all
 
 unfoldable pub waits_start : List ℕ
-waits_start = codes "<table><tr><th>Page</th><th>Wait, with the item that decides</th><th>Promise</th></tr>\n"
+waits_start = codes "<table><tr><th>Page</th><th>Longest wait, and for what</th><th>Promise</th></tr>\n"
 
 -- the first bad slot, if there is one, and the greatest deadline
 unfoldable pub all_html : Option ℕ → Option ℕ → List ℕ

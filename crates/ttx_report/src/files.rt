@@ -81,8 +81,8 @@ fn push_size(text: &mut String, size: &Size<'_>) -> Result<(), AllocError>
     ensures { OnOk result (string_bytes text.new ≡ string_bytes text.old ++ rule.size_cell size.now.count size.now.unit.now) }
 {
     push_words(text, "</td><td>")?;
-    push_decimal(text, size.count)?;
     push_words(text, size.unit)?;
+    push_decimal(text, size.count)?;
     push_words(text, "</td><td><code>")
 }
 
@@ -114,15 +114,15 @@ fn push_rows(
 {
     let slots = Size {
         count: sizes.slots,
-        unit: " slots",
+        unit: "slots: ",
     };
     let pages = Size {
         count: sizes.pages,
-        unit: " pages",
+        unit: "pages: ",
     };
     let entries = Size {
         count: sizes.entries,
-        unit: " entries",
+        unit: "entries: ",
     };
     push_row(alloc, text, "packet file", &slots, &marks.cycle)?;
     push_row(alloc, text, "service text", &pages, &marks.service)?;

@@ -30,7 +30,7 @@ fn push_pages(text: &mut String, pages: usize) -> Result<(), AllocError>
 {
     write!(
         text,
-        " shows each of the {pages} pages of the service text as it was authored, at most "
+        " shows each page of the service text ({pages} in all) as it was authored, at most "
     )
 }
 
@@ -73,7 +73,7 @@ fn push_no(text: &mut String, certificate: &Certificate, pages: usize) -> Result
     push_shows(text, certificate, pages)?;
     push_words(
         text,
-        ". The line names the first reason. It is not yet a failure: ttx refute looks for one.",
+        ". The line above gives the first reason, which ttx explain explains. It does not prove a failure: ttx refute looks for one.",
     )
 }
 
@@ -180,7 +180,7 @@ fn push_further(text: &mut String) -> Result<(), AllocError>
 {
     text.push_str(
         "<tr><td>refuses a row with a wrong byte whole, or loses rows</td>\
-          <td>if of as many successive transmissions of a row one arrives whole</td></tr>\n\
+          <td>if one of K successive transmissions of a row arrives whole, K being the repeat count</td></tr>\n\
           <tr><td>stores characters whatever their parity</td><td>if no row arrives with a wrong character</td></tr>\n",
     )
 }

@@ -101,7 +101,7 @@ fn push_waits_start(text: &mut String) -> Result<(), AllocError>
     ensures { OnOk result (string_bytes text.new ≡ string_bytes text.old ++ rule.waits_start) }
 {
     text.push_str(
-        "<table><tr><th>Page</th><th>Wait, with the item that decides</th><th>Promise</th></tr>\n",
+        "<table><tr><th>Page</th><th>Longest wait, and for what</th><th>Promise</th></tr>\n",
     )
 }
 

@@ -8,5 +8,5 @@ use Rattle.ttx_report.proofs.verdicts.push_no.Goals as goal
 pub returns : goal.returns
 unfolding no_words
 returns c =
-    joined c.push_words-2.result _ _ _ (codes "<b>No</b>: it is not certain that " ++ shows_text (fields_of c.args.certificate.now) c.args.pages) (codes ". The line names the first reason. It is not yet a failure: ttx refute looks for one.") (more _ _ _ (codes "<b>No</b>: it is not certain that ") (shows_text (fields_of c.args.certificate.now) c.args.pages) c.in_ok-push_words.ensures c.in_ok-push_shows.ensures)
+    joined c.push_words-2.result _ _ _ (codes "<b>No</b>: it is not certain that " ++ shows_text (fields_of c.args.certificate.now) c.args.pages) (codes ". The line above gives the first reason, which ttx explain explains. It does not prove a failure: ttx refute looks for one.") (more _ _ _ (codes "<b>No</b>: it is not certain that ") (shows_text (fields_of c.args.certificate.now) c.args.pages) c.in_ok-push_words.ensures c.in_ok-push_shows.ensures)
     c.push_words-2.ensures
