@@ -5,15 +5,19 @@ usage: make_data.py FOLDER
 
 Code words are those of EN 300 706, 8.2; characters have odd parity (8.1).
 """
+import hashlib
 import sys
+import tomllib
 from pathlib import Path
 
 sys.dont_write_bytecode = True
 from book_page import book  # noqa: E402
+from report_page import Found, Numbers, Wait, document  # noqa: E402
 
 WORDS = bytes.fromhex("1502495e6473382fd0c78c9ba1b6fdea")
 EMPTY = bytes(42)
 SPACES = bytes([0x20] * 40)
+BASE_TEXT = 'lines = 2\nserial = true\n[[page]]\nnumber = "100"\n'
 
 
 def packet(mag, number, rest):
@@ -319,6 +323,27 @@ def certificate(deadline, repeat=1, rows=range(1, 24), more=None, at=(0,)):
     return "\n".join([*lines, f"100/0000 links {starts(26)}"]) + "\n"
 
 
+def report(deadline, line, date=None):
+    """The report on the blank page, whose viewers wait 27 fields, and a certificate with this deadline, of which `certify` says this line."""
+    with (Path(__file__).parent / "cases/version.toml").open("rb") as file:
+        version = tomllib.load(file)["command"]["stdout"]
+    files = (b"".join(base()), BASE_TEXT.encode(), certificate(deadline).encode())
+    has = ("slots: 28", "pages: 1", "entries: 25")
+    inputs = [(size, hashlib.sha256(file).hexdigest()) for size, file in zip(has, files)]
+    words = " 27 fields 0.54 s"
+    found = Found(line + "\n", [Wait("100/0000", words + " row 23")], words, [])
+    return document(Numbers(False, 2, 1, deadline, 2), found, inputs, version, date)
+
+
+def reports():
+    yes = "yes lines 2 repeat 1 deadline 27 pages 1"
+    return {
+        "base-report.html": report(27, yes),
+        "base-report-dated.html": report(27, yes, "2024-02-29"),
+        "base-26-report.html": report(26, "no 10 late 100/0000 row 23 25"),
+    }
+
+
 def subpages_certificate(deadline, second):
     """The same for two blank subpages, the second of which begins at this slot."""
     entries = certificate(deadline, at=(second,)).split("\n", 4)[4].replace("/0000 ", "/0001 ")
@@ -543,7 +568,7 @@ def main():
     (folder / "83-bytes").write_bytes(b"".join(base())[:83])
     (folder / "desk-not-utf-8.toml").write_bytes(b"author = 1\nlines = 2\n# caf\xe9\n")
     texts = {
-        "base.toml": 'lines = 2\nserial = true\n[[page]]\nnumber = "100"\n',
+        "base.toml": BASE_TEXT,
         "preview.toml": PREVIEW,
         "book.html": book_of_cycle(),
         "no-pages.toml": "lines = 2\nserial = true\n",
@@ -572,7 +597,7 @@ def main():
         "slots-052.counter": counter(1, 52, 26, 23).replace("slots 52", "slots 052"),
         "slots-51.counter": counter(1, 51, 26, 23),
         "clearing.cert": "ttx certificate 2\nclass clearing\nlines 2\nrepeat 1\ndeadline 2\n100/0000 head 0\n",
-    } | services() | refused_services() | checked_services() | authors_texts() | certifying_texts() | splicing_texts() | extracted_texts() | missed()
+    } | services() | refused_services() | checked_services() | authors_texts() | certifying_texts() | splicing_texts() | extracted_texts() | missed() | reports()
     for name, text in texts.items():
         (folder / name).write_text(text)
     subpages = [sub for sub in range(0x3F7F) if sub & ~0x3F7F == 0][:1214]

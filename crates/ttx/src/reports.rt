@@ -22,7 +22,7 @@ pub fn memory_fault(rt: &HostRuntime) -> u8 {
 /// Reports a fault of a command, and answers the status.
 pub fn report(rt: &HostRuntime, fault: &ToolFault) -> u8 {
     let mut errors = Counted::new(rt.stderr());
-    match commands::report(rt.alloc(), fault, &mut errors) {
+    match commands::report_fault(rt.alloc(), fault, &mut errors) {
         Ok(status) => status,
         Err(ToolFault::Files(FilesFault::NoMemory)) => memory_fault(rt),
         Err(_) => FAULT,
@@ -38,18 +38,21 @@ pub fn report_refusal(rt: &HostRuntime, refusal: AirRefusal) -> u8 {
     }
 }
 
+/// Says that a text is no date, and answers the status.
+pub fn report_no_date(rt: &HostRuntime) -> u8 {
+    let mut errors = Counted::new(rt.stderr());
+    match commands::report::refuse_date(&mut errors) {
+        Ok(status) => status,
+        Err(_) => FAULT,
+    }
+}
+
 /// The status of what a command answers, whose fault is reported.
 pub fn status_of(rt: &HostRuntime, outcome: Result<u8, ToolFault>) -> u8 {
     match outcome {
         Ok(status) => status,
         Err(fault) => report(rt, &fault),
     }
-}
-
-/// Says that a command or an option has no body yet, and answers the status.
-pub fn not_built(rt: &HostRuntime) -> u8 {
-    let _ = rt.eprintln("refused: not built yet");
-    1
 }
 
 /// The status of a command on a file of these first bytes; where they are no slots, says what they are.

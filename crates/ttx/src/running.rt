@@ -13,7 +13,7 @@ mod services;
 mod splices;
 mod zones;
 
-use crate::reports::{not_built, status_of};
+use crate::reports::status_of;
 use std::io;
 use ttx_arguments::Order;
 use ttx_cycle::Counted;
@@ -61,7 +61,7 @@ pub fn run_order(rt: &HostRuntime, order: &Order<'_>) -> Outcome {
         Order::Wait(order) => certificates::wait(rt, order),
         Order::Send(order) => sends::send(rt, order),
         Order::Air(order) => airs::air(rt, order),
-        Order::Report(_) => Ok(not_built(rt)),
+        Order::Report(order) => certificates::report_on(rt, order),
         Order::Compose { author, out } => desks::compose(rt, author, out),
         Order::Decompose { service, out } => desks::decompose(rt, service, out),
         Order::Explain { reason } => Ok(status_of(rt, explain(rt, reason))),

@@ -14,6 +14,7 @@ mod TooLong
 mod ThreeInputs
 mod ServiceIds
 mod ReplayInputs
+mod ReportInputs
 mod MonitoredFeeds
 mod ShownFile
 mod CertificateLengths

@@ -29,6 +29,7 @@ mod promised;
 pub mod receive;
 pub mod refute;
 pub mod replay;
+pub mod report;
 mod reports;
 pub mod send;
 pub mod show;
@@ -40,4 +41,4 @@ pub mod version;
 pub mod wait;
 pub mod wait_numbers;
 
-pub use reports::{report, report_air, report_extraction, report_words};
+pub use reports::{report_air, report_extraction, report_fault, report_words};

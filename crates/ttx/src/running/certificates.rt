@@ -1,15 +1,16 @@
-//! The commands that judge a cycle by its service: `certify`, `find`, `wait`.
+//! The commands that judge a cycle by its service: `certify`, `find`, `report`, `wait`.
 
 use super::Outcome;
 use super::inputs::{Claim, ClaimReaders, SentService, SentServiceReaders, buffered};
 use crate::devices::{Input, create_out, open_input};
-use crate::reports::{report, status_of};
+use crate::reports::{report, report_no_date, status_of};
 use std::fs::File;
 use std::io;
 use std::io::BufReader;
-use ttx_arguments::{CertifyOrder, Fields, FindOrder, WaitOrder};
+use ttx_arguments::{CertifyOrder, Fields, FindOrder, ReportOrder, WaitOrder};
 use ttx_cycle::Counted;
 use ttx_deadline::Asked;
+use ttx_report::is_date;
 use ttx_tool::{ToolFault, commands};
 use ttx_wait::Detail;
 
@@ -180,6 +181,47 @@ pub fn find(rt: &HostRuntime, order: &FindOrder<'_>) -> Outcome {
     let inputs = SentService::open(rt, order.cycle, order.service)?;
     match create_out(rt, &[&inputs.cycle, &inputs.service], order.out)? {
         Some(file) => Ok(status_of(rt, find_to(rt, inputs, order, file))),
+        None => Ok(report(rt, &ToolFault::Same)),
+    }
+}
+
+// The status is 0 where the verdict is yes, else 1.
+fn report_to(
+    rt: &HostRuntime,
+    claim: Claim,
+    date: Option<&str>,
+    out: File,
+) -> Result<u8, ToolFault> {
+    let mut file = Counted::new(out);
+    let mut readers = claim.readers(rt)?;
+    commands::report::run(
+        rt.alloc(),
+        &mut readers.cycle,
+        &mut readers.service,
+        &mut readers.text,
+        date,
+        &mut file,
+    )
+}
+
+// Whether there is a date, and it is none of the calendar.
+fn has_wrong_date(order: &ReportOrder<'_>) -> bool {
+    match order.date {
+        Some(date) => !is_date(date),
+        None => false,
+    }
+}
+
+/// Opens the cycle, the service and the certificate, makes the document's file anew, and writes the report to it. A text that is no date is
+/// refused before anything is opened.
+pub fn report_on(rt: &HostRuntime, order: &ReportOrder<'_>) -> Outcome {
+    if has_wrong_date(order) {
+        return Ok(report_no_date(rt));
+    }
+    let claim = Claim::open(rt, order.cycle, order.service, order.certificate)?;
+    let inputs = [&claim.cycle, &claim.service, &claim.text];
+    match create_out(rt, &inputs, order.out)? {
+        Some(file) => Ok(status_of(rt, report_to(rt, claim, order.date, file))),
         None => Ok(report(rt, &ToolFault::Same)),
     }
 }

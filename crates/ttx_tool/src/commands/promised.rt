@@ -27,8 +27,8 @@ pub(super) struct PromisedInputs {
     pub promised: Promised,
 }
 
-// The service and the promises of a text.
-fn define(alloc: Global, text: &[u8]) -> Result<Promised, SourceError>
+/// The service and the promises of a text.
+pub(super) fn define(alloc: Global, text: &[u8]) -> Result<Promised, SourceError>
     ensures { DefinesPromised text.now result }
 {
     let service = match read_service(alloc, text) {

@@ -246,7 +246,7 @@ pub(super) fn write_text<W: Write>(
 /// Writes the line of a fault and answers the status of the program: 2 for what is refused, 3 for a fault.
 ///
 /// At `Write` exactly the first `written` bytes of the line went out; at each other fault the writer is as it was.
-pub fn report<W: Write>(
+pub fn report_fault<W: Write>(
     alloc: Global,
     fault: &ToolFault,
     writer: &mut Counted<W>,
@@ -335,6 +335,10 @@ pub fn report_words<W: Write>(
             };
             write_text(writer, line.as_str(), 2)
         }
-        WordsFault::NoMemory => report(alloc, &ToolFault::Files(FilesFault::NoMemory), writer),
+        WordsFault::NoMemory => report_fault(
+            alloc,
+            &ToolFault::Files(FilesFault::NoMemory),
+            writer,
+        ),
     }
 }

@@ -12,7 +12,7 @@ use ttx_cycle::Counted;
 use ttx_files::write_line;
 
 // What `rt version` says of the kit and the logic by which the program is proved stands behind its own version.
-const VERSION: &str = "ttx 1.0.0\nkit rattle-kit-13f\nlogic dac8208d650f15bf\n";
+pub(super) const VERSION: &str = "ttx 1.0.0\nkit rattle-kit-13f\nlogic dac8208d650f15bf\n";
 
 /// Writes the version of the program, and the kit and the logic by which it is proved.
 pub fn run<W: Write>(writer: &mut Counted<W>) -> Result<(), ToolFault>

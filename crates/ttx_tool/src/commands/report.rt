@@ -1,0 +1,207 @@
+//! `report`: the verdict on a carousel, what it promises, and how long viewers wait, as a document to print and to file.
+
+ghost use Rattle.std.specs.Prelude.{◌∷◌, [], codes, map, Option, option_map, IfSome, IfOk, string_bytes};
+ghost use Rattle.ttx_certificate.specs.Certificates.{fields_of};
+ghost use Rattle.ttx_cycle.specs.Counters.{inner_of, faults_of};
+ghost use Rattle.ttx_cycle.specs.Cycles.{slots_of};
+ghost use Rattle.ttx_files.specs.Answers.{IsUntouched};
+ghost use Rattle.ttx_files.specs.Devices.{AtCycle, AtService, AtCertificate, input, output};
+ghost use Rattle.ttx_report.specs.Files.{marks_view};
+ghost use Rattle.ttx_source.specs.PromiseViews.{promise_view};
+ghost use Rattle.ttx_tool.specs.Devices.{is_tool_write, Fails, Reads};
+ghost use Rattle.ttx_tool.specs.Reports.{Reports};
+ghost use Rattle.ttx_tool.specs.Report.{ReadsDefined, ReadsSealed, ReadsFiling, TellsReport, ReportsText, ReportsFiles};
+
+use super::certify::verdict_status;
+use super::promised::{Promised, define};
+use super::reports::write_text;
+use super::version::VERSION;
+use crate::faults::ToolFault;
+use std::alloc::Global;
+use std::io::{Read, Write};
+use ttx_certificate::{Certificate, read_certificate};
+use ttx_cycle::{Counted, Cycle, TextFault};
+use ttx_files::{FilesFault, TextFile, Told, read_packets, read_service_text, read_text};
+use ttx_report::{Filing, Imprint, Marks, marks_of, report};
+use ttx_witness::NoMemory;
+
+// A service with its promises, and its text.
+#[derive(Drop)]
+struct Defined {
+    promised: Promised,
+    text: Vec<u8>,
+}
+
+// A certificate, and its text.
+#[derive(Drop)]
+struct Sealed {
+    certificate: Certificate,
+    text: Vec<u8>,
+}
+
+// What a report is on.
+#[derive(Drop)]
+struct Filed {
+    cycle: Cycle,
+    promised: Promised,
+    certificate: Certificate,
+    marks: Marks,
+}
+
+// Reads the text of a service with its promises.
+fn read_defined<R: Read>(alloc: Global, reader: &mut Counted<R>) -> Result<Defined, ToolFault>
+    ensures bytes { IfSome (R.remaining (inner_of reader.old)) (λ bytes. ReadsDefined bytes result) }
+    ensures faults { Reads (input AtService (R.remaining (inner_of reader.old)) (faults_of reader.old) (faults_of reader.new) ∷ []) result }
+{
+    let text = match read_service_text(alloc, reader) {
+        Ok(text) => text,
+        Err(fault) => return Err(ToolFault::Files(fault)),
+    };
+    match define(alloc, text.as_slice()) {
+        Ok(promised) => Ok(Defined { promised, text }),
+        Err(error) => Err(ToolFault::Files(FilesFault::Service(error))),
+    }
+}
+
+// Reads the text of a certificate.
+fn read_sealed<R: Read>(alloc: Global, reader: &mut Counted<R>) -> Result<Sealed, ToolFault>
+    ensures bytes { IfSome (R.remaining (inner_of reader.old)) (λ bytes. ReadsSealed bytes result) }
+    ensures faults { Reads (input AtCertificate (R.remaining (inner_of reader.old)) (faults_of reader.old) (faults_of reader.new) ∷ []) result }
+{
+    let which = TextFile::Certificate;
+    let text = match read_text(alloc, reader) {
+        Ok(text) => text,
+        Err(TextFault::Read) => return Err(ToolFault::Files(FilesFault::Read { which })),
+        Err(TextFault::TooLong) => return Err(ToolFault::Files(FilesFault::TooLong { which })),
+        Err(TextFault::NoMemory) => return Err(ToolFault::Files(FilesFault::NoMemory)),
+    };
+    match read_certificate(alloc, text.as_slice()) {
+        Ok(certificate) => Ok(Sealed { certificate, text }),
+        Err(fault) => Err(ToolFault::Files(FilesFault::Certificate(fault))),
+    }
+}
+
+// Reads a packet file, the text of a service and that of a certificate, in this order.
+fn read_filed<A: Read, B: Read, C: Read>(
+    alloc: Global,
+    cycle: &mut Counted<A>,
+    service: &mut Counted<B>,
+    certificate: &mut Counted<C>,
+) -> Result<Filed, ToolFault>
+    ensures bytes { IfSome (A.remaining (inner_of cycle.old))
+        (λ a. IfSome (B.remaining (inner_of service.old)) (λ b. IfSome (C.remaining (inner_of certificate.old))
+        (λ c. ReadsFiling a b c result))) }
+    ensures faults { Reads (input AtCycle (A.remaining (inner_of cycle.old)) (faults_of cycle.old) (faults_of cycle.new)
+        ∷ input AtService (B.remaining (inner_of service.old)) (faults_of service.old) (faults_of service.new)
+        ∷ input AtCertificate (C.remaining (inner_of certificate.old)) (faults_of certificate.old) (faults_of certificate.new) ∷ []) result }
+{
+    let cycle = match read_packets(alloc, cycle) {
+        Ok(cycle) => cycle,
+        Err(fault) => return Err(ToolFault::Files(fault)),
+    };
+    let defined = match read_defined(alloc, service) {
+        Ok(defined) => defined,
+        Err(fault) => return Err(fault),
+    };
+    match read_sealed(alloc, certificate) {
+        Ok(sealed) => {
+            let marks = marks_of(&cycle, defined.text.as_slice(), sealed.text.as_slice());
+            Ok(Filed {
+                cycle,
+                promised: defined.promised,
+                certificate: sealed.certificate,
+                marks,
+            })
+        }
+        Err(fault) => Err(fault),
+    }
+}
+
+// The document, and the status.
+fn tell(alloc: Global, filed: &Filed, date: Option<&str>) -> Result<Told<u8>, NoMemory>
+    ensures { IfOk result (λ told. TellsReport (slots_of filed.now.cycle) filed.now.promised.service
+        (map promise_view filed.now.promised.promises.items) (fields_of filed.now.certificate) (marks_view filed.now.marks)
+        (option_map (λ d. d.now) date.entry) (string_bytes told.line) told.verdict) }
+{
+    let filing = Filing {
+        cycle: &filed.cycle,
+        service: &filed.promised.service,
+        promises: &filed.promised.promises,
+        certificate: &filed.certificate,
+        marks: filed.marks,
+    };
+    let imprint = Imprint {
+        version: VERSION,
+        date,
+    };
+    let report = report(alloc, &filing, &imprint)?;
+    Ok(Told {
+        verdict: verdict_status(report.verdict),
+        line: report.text,
+    })
+}
+
+// The same of a packet file and the two texts.
+fn report_text<A: Read, B: Read, C: Read>(
+    alloc: Global,
+    cycle: &mut Counted<A>,
+    service: &mut Counted<B>,
+    certificate: &mut Counted<C>,
+    date: Option<&str>,
+) -> Result<Told<u8>, ToolFault>
+    ensures bytes { IfSome (A.remaining (inner_of cycle.old))
+        (λ a. IfSome (B.remaining (inner_of service.old)) (λ b. IfSome (C.remaining (inner_of certificate.old))
+        (λ c. ReportsText a b c (option_map (λ d. d.now) date.entry) result))) }
+    ensures faults { Reads (input AtCycle (A.remaining (inner_of cycle.old)) (faults_of cycle.old) (faults_of cycle.new)
+        ∷ input AtService (B.remaining (inner_of service.old)) (faults_of service.old) (faults_of service.new)
+        ∷ input AtCertificate (C.remaining (inner_of certificate.old)) (faults_of certificate.old) (faults_of certificate.new) ∷ []) result }
+{
+    let filed = match read_filed(alloc, cycle, service, certificate) {
+        Ok(filed) => filed,
+        Err(fault) => return Err(fault),
+    };
+    match tell(alloc, &filed, date) {
+        Ok(told) => Ok(told),
+        Err(_) => Err(ToolFault::Files(FilesFault::NoMemory)),
+    }
+}
+
+/// Reads a packet file, the text of a service and that of a certificate, in this order, and writes the report on them, with the date, if
+/// one is given, as it is. The status is 0 if the verdict is yes, otherwise 1.
+///
+/// Nothing is written before all is judged. At `Write` exactly the first `written` bytes of the document went out; at each other fault
+/// the writer is as it was.
+pub fn run<A: Read, B: Read, C: Read, W: Write>(
+    alloc: Global,
+    cycle: &mut Counted<A>,
+    service: &mut Counted<B>,
+    certificate: &mut Counted<C>,
+    date: Option<&str>,
+    writer: &mut Counted<W>,
+) -> Result<u8, ToolFault>
+    ensures bytes { IfSome (A.remaining (inner_of cycle.old))
+        (λ a. IfSome (B.remaining (inner_of service.old)) (λ b. IfSome (C.remaining (inner_of certificate.old)) (λ c.
+        ReportsFiles a b c (option_map (λ d. d.now) date.entry) (W.contents (inner_of writer.old)) (W.contents (inner_of writer.new)) result))) }
+    ensures faults { Fails (input AtCycle (A.remaining (inner_of cycle.old)) (faults_of cycle.old) (faults_of cycle.new)
+        ∷ input AtService (B.remaining (inner_of service.old)) (faults_of service.old) (faults_of service.new)
+        ∷ input AtCertificate (C.remaining (inner_of certificate.old)) (faults_of certificate.old) (faults_of certificate.new)
+        ∷ output (faults_of writer.old) (faults_of writer.new) ∷ []) result }
+    ensures untouched { IsUntouched is_tool_write result writer.old writer.new }
+{
+    let told = match report_text(alloc, cycle, service, certificate, date) {
+        Ok(told) => told,
+        Err(fault) => return Err(fault),
+    };
+    write_text(writer, told.line.as_str(), told.verdict)
+}
+
+/// Writes the line that says that a text is no date, and answers the status of the program, 2.
+///
+/// At `Write` exactly the first `written` bytes of the line went out; at each other fault the writer is as it was.
+pub fn refuse_date<W: Write>(writer: &mut Counted<W>) -> Result<u8, ToolFault>
+    ensures line { Reports (codes "refused: date\n") 2 (W.contents (inner_of writer.old)) (W.contents (inner_of writer.new)) result }
+    ensures faults { Fails (output (faults_of writer.old) (faults_of writer.new) ∷ []) result }
+    ensures untouched { IsUntouched is_tool_write result writer.old writer.new }
+{
+    write_text(writer, "refused: date\n", 2)
+}
