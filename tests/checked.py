@@ -13,7 +13,7 @@ from collections import Counter
 TAKES = {
     "service": "lines serial info page".split(),
     "info": "designation initial network halves mjd utc text".split(),
-    "page": "number sub often option newsflash subtitle suppress update interrupted inhibit head rows links row24 crc".split(),
+    "page": "number sub often within stays option newsflash subtitle suppress update interrupted inhibit head rows links row24 crc".split(),
 }
 FIRST = {"number": "100", "sub": "0000", "often": 1, "newsflash": False, "subtitle": False, "inhibit": False, "head": "", "rows": {}, "links": [], "row24": False}
 CODES = "AB \t\n\n\b\v\v\r#[_\x11\x02"
@@ -103,6 +103,8 @@ def random_page(number, sub):
     page = {"number": number} | ({"sub": sub} if sub != "0000" or random.random() < 0.3 else {})
     if random.random() < 0.4:
         page["often"] = random.choice([1, 2, 4, 8])
+    if random.random() < 0.3:
+        page["stays"] = random.choice([0.02, 1, 2, 2.98, 3, 3.0, 8.5, 60.0, 20000])
     for key in ("newsflash", "subtitle", "inhibit", "row24"):
         if random.random() < 0.2:
             page[key] = random.random() < 0.7
@@ -248,6 +250,23 @@ def page_lines(page, pages, subpages, copies):
         yield f"warning {place}: often doesn't help: it is sent directly behind itself {copies[name]} times\n"
 
 
+def stay_lines(service, numbers):
+    """Lines about numbers with several pages that have no stay of three seconds, and about stays that no plan keeps."""
+    pages = service.get("page", [])
+    stays = [(page, int(page["stays"] * 1e6 + 0.5) // 20000) for page in pages if "stays" in page]
+    for number, count in numbers.items():
+        kept = any(page["number"] == number and fields >= 150 for page, fields in stays)
+        if count > 1 and not kept:
+            yield f"warning number {number}: its {count} pages may change before they are read: give one stays = 3.0 or more, and plan --spread\n"
+    for page, fields in stays:
+        count = numbers[page["number"]]
+        slots = count * fields * service["lines"]
+        if count == 1:
+            yield f"warning page {identity(page)} stays: no other page has its number\n"
+        elif slots > 65536:
+            yield f"warning page {identity(page)} stays: the {count} pages of its number take {slots} slots, and a cycle has at most 65536\n"
+
+
 def lines(service):
     pages = service.get("page", [])
     yield from key_lines("service", "service", service)
@@ -266,6 +285,7 @@ def lines(service):
             own = sum(packets(page) for page in pages if page["number"][0] == magazine)
             if total < 2 * own and own < total:
                 yield f"warning magazine {magazine}: it has more than half of all packets: compare ttx wait with serial = false\n"
+    yield from stay_lines(service, Counter(page["number"] for page in pages))
 
 
 def report(service):

@@ -53,6 +53,22 @@ def base():
     return [header(1, 0), EMPTY, EMPTY, *[row(1, r) for r in range(1, 24)], links(1), time_filling(1)]
 
 
+def staying(keys):
+    """Two blank subpages of page 100, the first of which has these keys, and page 101."""
+    page = '[[page]]\nnumber = "{}"\n'
+    return page.format(100) + keys + page.format(100) + 'sub = "0001"\n' + page.format(101)
+
+
+def carousel(times):
+    """The two subpages in turn, page 101 so many times after each."""
+    slots = []
+    for sub in (0, 1):
+        for page, subcode in [(0, sub), *[(1, 0)] * times]:
+            slots += [header(1, page, subcode), *base()[1:27]]
+    slots.append(time_filling(1))
+    return slots + [EMPTY] * (len(slots) % 2)
+
+
 def two_subpages(between):
     """Two blank subpages of page 100, each with these slots behind it."""
     return [slot for sub in (0, 1) for slot in [header(1, 0, sub), *base()[1:27], *between]]
@@ -200,6 +216,14 @@ def services():
         "within-27-fields.toml": serial + page.format(100) + "within = 0.54\n",
         "within-26-fields.toml": serial + page.format(100) + "within = 0.52\n",
         "within-0.toml": serial + page.format(100) + "within = 0\n",
+        "stays-27-fields.toml": serial + staying("stays = 0.54\n"),
+        "stays-28-fields.toml": serial + staying("stays = 0.56\n"),
+        "stays-within.toml": serial + staying("stays = 0.56\nwithin = 1.2\n"),
+        "stays-alone.toml": serial + page.format(100) + "stays = 1\n" + page.format(100) + 'sub = "0001"\nstays = 2\n',
+        "stays-0.toml": serial + staying("stays = 0\n"),
+        "stays-3-seconds.toml": serial + staying("stays = 3.0\n"),
+        "stays-400-seconds.toml": serial + staying("stays = 400\n"),
+        "stays-of-one-page.toml": serial + page.format(100) + "stays = 4.0\n" + page.format(101),
         "no-serial.toml": "lines = 2\n",
         "kind-of-page.toml": serial + "page = 1\n",
     }
@@ -552,6 +576,8 @@ def main():
         "alone-in-its-magazine.t42": with_slot(base(), 27, header(2, 0)),
         "subpages.t42": two_subpages([]),
         "subpages-apart.t42": two_subpages([time_filling(1)]),
+        "stays-once.t42": carousel(1),
+        "stays-twice.t42": carousel(2),
         "subpages-unwhole.t42": number_lacking([header(1, 0), EMPTY, EMPTY, *[row(1, r) for r in range(1, 23)], links(1)]),
         "subpages-unlisted.t42": number_lacking([header(1, 0, 2)]),
         "row-5-wrong.t42": with_byte(base(), 7, 2, 0xC1),

@@ -24,7 +24,7 @@ info_keys =
 
 unfoldable pub page_keys : List (List ℕ)
 page_keys =
-    codes "number" ∷ codes "sub" ∷ codes "often" ∷ codes "within" ∷ codes "option" ∷ codes "newsflash" ∷ codes "subtitle" ∷ codes "suppress"
+    codes "number" ∷ codes "sub" ∷ codes "often" ∷ codes "within" ∷ codes "stays" ∷ codes "option" ∷ codes "newsflash" ∷ codes "subtitle" ∷ codes "suppress"
     ∷ codes "update" ∷ codes "interrupted" ∷ codes "inhibit" ∷ codes "head" ∷ codes "rows" ∷ codes "links" ∷ codes "row24" ∷ codes "crc" ∷ []
 
 abbrev pub is_one_of : List (List ℕ) → List ℕ → Bool

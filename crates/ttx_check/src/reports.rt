@@ -1,12 +1,13 @@
 //! The report on a service text.
 
-ghost use Rattle.std.specs.Prelude.{◌≡◌, IfOk, Some, codes, true, string_bytes};
+ghost use Rattle.std.specs.Prelude.{◌≡◌, IfOk, Some, codes, map, true, string_bytes};
 ghost use Rattle.std.specs.Str.{is_utf8};
 ghost use Rattle.toml.specs.Parse.{parse_document};
 ghost use Rattle.toml.specs.View.{table_view};
 ghost use Rattle.ttx_check.specs.Refusals.{IsErrorLine};
 ghost use Rattle.ttx_check.specs.Reports as rule;
 ghost use Rattle.ttx_source.specs.Faults.{fault_of};
+ghost use Rattle.ttx_source.specs.PromiseViews.{promise_view};
 ghost use Rattle.ttx_source.specs.Promises.{promises_of};
 ghost use Rattle.ttx_source.specs.Services.{service_of};
 ghost use Rattle.ttx_source.specs.Values.{not_toml};
@@ -17,7 +18,10 @@ use crate::unknown_keys::push_keys;
 use crate::warning_lines::push_warnings;
 use std::alloc::{AllocError, Global};
 use toml::Table;
-use ttx_source::{Service, SourceError, SourceFault, promises_of_table, service_of_table};
+use ttx_source::{
+    Promise, Service, SourceError, SourceFault, promises_of_table, service_of_table, stays_of_table,
+};
+use ttx_stays::push_stay_warnings;
 
 /// The report on a text, and the status.
 #[derive(Drop)]
@@ -38,14 +42,20 @@ fn lines_or_count(alloc: Global, count: usize, lines: String) -> Result<String, 
     }
 }
 
-// The report on a service and its table.
-fn service_report(alloc: Global, table: &Table, service: &Service) -> Result<String, AllocError>
-    ensures { IfOk result (λ text. string_bytes text ≡ rule.report (table_view table.now) service.now) }
+// The report on a service, its stays and its table.
+fn service_report(
+    alloc: Global,
+    table: &Table,
+    service: &Service,
+    stays: &[Promise],
+) -> Result<String, AllocError>
+    ensures { IfOk result (λ text. string_bytes text ≡ rule.report (table_view table.now) service.now (map promise_view stays.now)) }
 {
     let mut lines = String::new(alloc);
     push_keys(alloc, &mut lines, table, service.pages())?;
     let found = warnings(alloc, service)?;
     push_warnings(&mut lines, &found)?;
+    push_stay_warnings(&mut lines, service, stays)?;
     lines_or_count(alloc, service.pages().len(), lines)
 }
 
@@ -55,12 +65,14 @@ fn accepted(
     bytes: &[u8],
     table: &Table,
     service: &Service,
+    stays: &[Promise],
 ) -> Result<Checked, AllocError>
     requires { parse_document bytes.now ≡ Some (table_view table.now) }
-    ensures { IfOk result (λ report. rule.IsRead bytes.now service.now (string_bytes report.text) × (report.status ≡ 0)) }
+    ensures { IfOk result (λ report.
+        rule.IsRead bytes.now service.now (map promise_view stays.now) (string_bytes report.text) × (report.status ≡ 0)) }
 {
     Ok(Checked {
-        text: service_report(alloc, table, service)?,
+        text: service_report(alloc, table, service, stays)?,
         status: 0,
     })
 }
@@ -89,6 +101,29 @@ fn refusal(
     Ok(refused(error_line(alloc, bytes, table, error)?))
 }
 
+// The report on a text whose service and promises are accepted, and whose stays may be refused.
+fn stay_report(
+    alloc: Global,
+    bytes: &[u8],
+    table: &Table,
+    service: &Service,
+) -> Result<Checked, AllocError>
+    requires { parse_document bytes.now ≡ Some (table_view table.now) }
+    ensures { IfOk result (λ report. rule.IsStayReport bytes.now service.now
+        (promises_of (codes "stays") (table_view table.now)) (string_bytes report.text) report.status) }
+{
+    match stays_of_table(alloc, table) {
+        Ok(stays) => accepted(alloc, bytes, table, service, &stays),
+        Err(
+            SourceError {
+                fault: SourceFault::NoMemory,
+                page: _,
+            },
+        ) => Err(AllocError),
+        Err(error) => refusal(alloc, bytes, table, &error),
+    }
+}
+
 // The report on a text whose service is accepted, and whose promises may be refused.
 fn promised_report(
     alloc: Global,
@@ -96,12 +131,13 @@ fn promised_report(
     table: &Table,
     service: &Service,
 ) -> Result<Checked, AllocError>
-    requires { parse_document bytes.now ≡ Some (table_view table.now) }
+    requires utf8 { is_utf8 bytes.now ≡ true }
+    requires parsed { parse_document bytes.now ≡ Some (table_view table.now) }
     ensures { IfOk result (λ report. rule.IsPromiseReport bytes.now service.now
         (promises_of (codes "within") (table_view table.now)) (string_bytes report.text) report.status) }
 {
     match promises_of_table(alloc, table) {
-        Ok(_) => accepted(alloc, bytes, table, service),
+        Ok(_) => stay_report(alloc, bytes, table, service),
         Err(
             SourceError {
                 fault: SourceFault::NoMemory,
@@ -137,7 +173,7 @@ fn toml_refusal(alloc: Global, bytes: &[u8]) -> Result<Checked, AllocError>
     Ok(refused(toml_line(alloc, bytes)?))
 }
 
-/// The report on a text: one line if the service or one of its promises is refused, otherwise the warnings. `Err` if memory runs out.
+/// The report on a text: one line if the service, one of its promises or one of its stays is refused, otherwise the warnings. `Err` if memory runs out.
 pub fn report(alloc: Global, bytes: &[u8]) -> Result<Checked, AllocError>
     ensures { IfOk result (λ report. rule.IsServiceReport bytes.now (string_bytes report.text) report.status) }
 {

@@ -31,11 +31,12 @@ static INFO_KEYS: [&str; 7] = [
     "text",
 ];
 
-static PAGE_KEYS: [&str; 16] = [
+static PAGE_KEYS: [&str; 17] = [
     "number",
     "sub",
     "often",
     "within",
+    "stays",
     "option",
     "newsflash",
     "subtitle",

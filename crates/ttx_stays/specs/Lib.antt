@@ -1,0 +1,4 @@
+pub mod Numbers
+pub mod ShortNumbers
+pub mod UnkeptStays
+pub mod StayWarnings
