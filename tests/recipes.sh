@@ -66,46 +66,6 @@ try verdict.sh
 tail -n 1 "$work/printed" | grep -qx "nothing was judged" || fail "a fault isn't reported"
 mv whole.t42 news.t42
 
-# on the air: the change is prepared while the second shift is sent, and the third shift is the last
-sed 's/0001Storm /0003Sunny /' news.toml > tomorrow.toml
-cp tomorrow.toml changed.toml
-cat > "$work/bin/sender" <<S
-#!/bin/sh
-head -c 4000000
-sh "$top/examples/change.sh" > judged 2>&1
-head -c 3000000
-touch stop
-cat
-S
-chmod +x "$work/bin/sender"
-recipe change.sh
-try on-air.sh
-cp "$work/printed" "$work/aired"
-[ "$(tail -n 1 judged)" = yes ] || fail "the change is judged $(tail -n 1 judged)"
-cmp -s air.toml changed.toml || fail "the change isn't on the air"
-python3 - "$work/aired" <<'P' || fail "something else is on the air"
-import sys
-aired = open(sys.argv[1], "rb").read()
-slots = len(open("news.t42", "rb").read()) // 42
-shift = 50 * slots * 42
-assert len(aired) == 3 * shift, len(aired)
-text = bytes(b & 0x7f for b in aired)
-for at, here, gone in (0, b"\x01Storm ", b"\x03Sunny "), (shift, b"\x01Storm ", b"\x03Sunny "), (2 * shift, b"\x03Sunny ", b"\x01Storm "):
-    assert here in text[at:at + shift] and gone not in text[at:at + shift], at
-# slot 1 is a page header: its clock advances by as many seconds as the period has fields
-clocks = [text[at + 42 + 34:at + 42 + 42].split(b":") for at in range(0, 3 * shift, shift)]
-seconds = [int(h) * 3600 + int(m) * 60 + int(s) for h, m, s in clocks]
-assert [(b - a) % 86400 for a, b in zip(seconds, seconds[1:])] == [slots // 12] * 2, clocks
-P
-# started again after a crash between two files of a change, it sends the whole edition that was on its way
-cp air.t42 changed.t42
-mv air.t42 next.t42
-cp news.t42 air.t42
-printf '#!/bin/sh\ntouch stop\ncat\n' > "$work/bin/sender"
-try on-air.sh
-[ -e next.t42 ] && fail "a half-made change stays half-made"
-cmp -s air.t42 changed.t42 || fail "started again, it sends something else"
-
 # what comes back: two minutes and a part of one, in the second of which a packet is lost
 ttx send news.t42 --at 61000/120000 --fields 6100 --lines 12 --phase 7 > "$work/received"
 lost=$(python3 -c 'import sys; data = open(sys.argv[1], "rb").read(); print(next(n for n in range(40000, 41000) if any(data[42 * n:42 * n + 42])))' "$work/received")
