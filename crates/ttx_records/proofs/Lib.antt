@@ -1,0 +1,2 @@
+mod AbsentPages
+mod SixMembers
