@@ -12,7 +12,7 @@ use Rattle.ttx_tool.specs.Show.{shown_text, shown_status, IsShownFile, HearsFile
 use Rattle.ttx_tool.specs.declared.faults.ToolFault.{ToolFault}
 use Rattle.ttx_tool.specs.declared.faults.ToolFault.TheVariants.{Files, Plan, Class, Same, Counter, Feed}
 
-keeps_same : (known : Option (List ℕ)) → Keeps known known
+pub keeps_same : (known : Option (List ℕ)) → Keeps known known
 keeps_same None = tt
 keeps_same (Some xs) = refl
 
