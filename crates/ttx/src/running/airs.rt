@@ -7,11 +7,10 @@ use crate::reports::{report, report_refusal, status_of};
 use std::io::{IsTerminal, Write};
 use std::{fs, io};
 use ttx_arguments::{AirOrder, Clock as AskedClock, Offset};
-use ttx_broadcast::{BroadcastFault, LogCopy, Outputs, ServiceFile};
 use ttx_cycle::Counted;
 use ttx_moment::ZoneClock;
 use ttx_send::Clock;
-use ttx_tool::{AirRefusal, ToolFault, commands};
+use ttx_tool::{AirRefusal, BroadcastFault, LogCopy, Outputs, ServiceFile, ToolFault, commands};
 
 // Reports why a broadcast ended before its time, and answers the status.
 fn status_of_air(rt: &HostRuntime, ended: Result<(), BroadcastFault>) -> u8 {
