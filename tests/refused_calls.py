@@ -2,8 +2,7 @@
 """Runs the built program while one of its calls of the C library fails: each allocation in turn, and each read and each write, in pieces of
 some bytes. Then the program must end with `fault: memory`, `fault: read` or `fault: write`, and have written only the first bytes of its
 usual output. After a failed allocation it may also do what it does otherwise, but at least one allocation of each command must end in
-`fault: memory`. A command without any allocation, read or write fails the test, except where the table below says so. `air` goes on where a
-call fails after the first packet, unless it is a write of packets, and notes it in its log.
+`fault: memory`. A command without any allocation, read or write fails the test, except where the table below says so.
 
 usage: refused_calls.py PROGRAM
 
@@ -84,8 +83,6 @@ COMMANDS = [
     ("certify missing base.toml base.cert", True),
     ("find base.t42", True),
     ("--help", True),
-    ("air small.toml --within 1 --at 61000/235959 --fields 9", False),
-    ("air small.toml --within 1 --at 61000/235959 --fields 9 --at-once --spread --log out", True),
 ]
 
 
@@ -180,57 +177,6 @@ class Runs:
         return writes
 
 
-class AirRuns(Runs):
-    """Runs of `air`, which goes on when it looks at its text and has no memory, or cannot read it; or when its log fails."""
-
-    def is_kept(self, ample, answer, words):
-        """Whether all packets went out, and the log has one line more, with these words."""
-        kept = [line for line in answer[2].splitlines(keepends=True) if b" kept" in line and line.endswith(words)]
-        return answer[:2] == ample[:2] and len(kept) == 1 and answer[2].replace(kept[0], b"") == ample[2]
-
-    def is_ended(self, ample, answer, words):
-        """Whether no packets went out, and the log has the beginning of what it has otherwise, and then these words."""
-        return answer[:2] == (3, b"") and answer[2].endswith(words) and ample[2].startswith(answer[2].removesuffix(words))
-
-    def refuse_growths(self):
-        ample, (growths, _, _) = self.counted()
-        told = 0
-        for n in range(1, growths + 2):
-            answer = self.run(growth=n)
-            is_told = self.is_ended(ample, answer, b"fault: memory\n")
-            told += is_told
-            is_right = answer == ample or is_told or self.is_kept(ample, answer, b": out of memory\n")
-            self.expect(is_right and (n <= growths or answer == ample), answer, f"growth {n} of {growths}")
-        self.expect(told > 0, ample, f"none of {growths} growths ends in fault: memory")
-        return growths, told
-
-    def fail_reads(self, ample, piece):
-        answer, (_, reads, _) = self.counted(piece=piece)
-        self.expect(answer == ample, answer, f"pieces of {piece}")
-        kept = 0
-        for n in range(1, reads + 1):
-            answer = self.run(piece=piece, read=n)
-            is_kept = self.is_kept(ample, answer, b" kept: the text cannot be read\n")
-            kept += is_kept
-            self.expect(is_kept or self.is_ended(ample, answer, b"fault: read\n"), answer, f"pieces of {piece}, read {n} of {reads}")
-        self.expect(0 < kept < reads, answer, f"{kept} of {reads} reads leave the pages on the air")
-        return reads
-
-    def fail_writes(self, ample, piece):
-        _, stdout, log, _ = ample
-        _, (_, _, writes) = self.counted(piece=piece)
-        sent = set()
-        for n in range(1, writes + 1):
-            answer = self.run(piece=piece, write=n)
-            is_short = answer[0] == 3 and answer[2].endswith(b"fault: write\n") and stdout.startswith(answer[1]) and len(answer[1]) % piece == 0
-            is_cut = answer[:2] == ample[:2] and len(answer[2]) < len(log)
-            if is_short:
-                sent.add(len(answer[1]))
-            self.expect(is_short or is_cut, answer, f"pieces of {piece}, write {n} of {writes}")
-        self.expect(sent == set(range(0, len(stdout), piece)), ample, f"failed writes of packets after {sorted(sent)} bytes")
-        return writes
-
-
 def build(folder):
     kit = Path(os.path.realpath(shutil.which("rt"))).parent.parent
     words = [kit / "toolchain/bin/clang", "-O1", "-shared", "-fPIC", "-nostdlib", "-o", folder / "refusing.so", TOP / "tests/refusing.c"]
@@ -239,7 +185,7 @@ def build(folder):
 
 def refuse_all(program, folder, words, growths_alone):
     """All runs of one command in a folder of its own: how many allocations, `fault: memory` answers, reads and writes there were."""
-    runs = (AirRuns if words.startswith("air ") else Runs)(program, folder, words)
+    runs = Runs(program, folder, words)
     growths, told = runs.refuse_growths()
     ample = runs.run()
     pieces = () if growths_alone else PIECES
