@@ -82,6 +82,7 @@ COMMANDS = [
     ("extract unlike.t42 out --lines 2", True),
     ("compose desk-mistakes.toml out", True),
     ("decompose desk-composed.toml out", True),
+    ("extract unlike.t42 out --lines 2 --partial", True),
     ("check check-misspelt.toml", True),
     ("check check-row-of-47.toml", True),
     ("certify missing base.toml base.cert", True),

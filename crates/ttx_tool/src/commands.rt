@@ -16,6 +16,7 @@ pub mod decompose;
 pub mod diagnosis;
 pub mod explain;
 pub mod extract;
+pub mod extract_partial;
 pub mod find;
 pub mod find_deadline;
 pub mod inspect;
