@@ -11,7 +11,7 @@ use Rattle.ttx_arguments.specs.Grammar.{ttx_app}
 use Rattle.ttx_arguments.specs.Orders.{Asks, order_at}
 use Rattle.ttx_arguments.specs.Moments.{moment_of}
 use Rattle.ttx_arguments.specs.Seconds.{fields_of, hundredths_of}
-use Rattle.ttx_arguments.specs.Examples.{VersionWords, CertifyWords, SendWords, PlanWords, SecondsTexts, FindWords, RepeatWords, SpliceWords, WaitWords, MonitorWords, ExplainWords, AirWords, ComposeWords, TwiceWords}
+use Rattle.ttx_arguments.specs.Examples.{VersionWords, CertifyWords, SendWords, PlanWords, SecondsTexts, FindWords, RepeatWords, SpliceWords, WaitWords, MonitorWords, ExplainWords, AirWords, ComposeWords, TwiceWords, RefuteWords}
 
 pub version_words : VersionWords
 unfolding ttx_app walked bundle_met chars encode_utf8 flags_pass walk_passes flags_fault walk_fault defaults_fault
@@ -20,6 +20,8 @@ version_words names = (refl, refl)
 pub certify_words : CertifyWords
 unfolding ttx_app walked bundle_met chars encode_utf8 flags_pass walk_passes flags_fault walk_fault defaults_fault Asks order_at command_named fields_of hundredths_of decimal_in two_decimals
 certify_words names = (
+  inl (refl, refl),
+  inl (refl, refl),
   inl (refl, refl),
   inl (refl, refl),
   inl (refl, refl),
@@ -68,7 +70,11 @@ splice_words names = (inl (refl, refl), inl (refl, refl), inl (refl, refl), refl
 
 pub wait_words : WaitWords
 unfolding ttx_app walked bundle_met chars encode_utf8 flags_pass walk_passes flags_fault walk_fault defaults_fault Asks order_at command_named
-wait_words names = (inl (refl, refl), inl (refl, refl), inl (refl, refl), inl (refl, refl))
+wait_words names = (inl (refl, refl), inl (refl, refl), inl (refl, refl), inl (refl, refl), inl (refl, refl), inl (refl, refl))
+
+pub refute_words : RefuteWords
+unfolding ttx_app walked bundle_met chars encode_utf8 flags_pass walk_passes flags_fault walk_fault defaults_fault Asks order_at command_named
+refute_words names = (inl (refl, refl), inl (refl, refl))
 
 pub monitor_words : MonitorWords
 unfolding ttx_app walked bundle_met chars encode_utf8 flags_pass walk_passes flags_fault walk_fault defaults_fault Asks order_at command_named

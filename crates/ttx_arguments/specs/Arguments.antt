@@ -180,8 +180,8 @@ arguments_of command.Find =
     argument.Cycle ∷ argument.Service ∷ argument.Found ∷ argument.Repeat ∷ argument.Class ∷ argument.Deadline ∷ argument.Within ∷ []
 arguments_of command.Certify =
     argument.Cycle ∷ argument.Service ∷ argument.Certificate ∷ argument.Late ∷ argument.Numbers ∷ argument.Twice ∷ argument.Within
-    ∷ argument.CertifyAll ∷ []
-arguments_of command.Refute = argument.Cycle ∷ argument.Service ∷ argument.Certificate ∷ argument.Save ∷ []
+    ∷ argument.CertifyAll ∷ argument.Json ∷ []
+arguments_of command.Refute = argument.Cycle ∷ argument.Service ∷ argument.Certificate ∷ argument.Save ∷ argument.Json ∷ []
 arguments_of command.Replay = argument.Cycle ∷ argument.Service ∷ argument.Counter ∷ []
 arguments_of command.Receive = argument.Cycle ∷ argument.Page ∷ argument.Lines ∷ argument.Start ∷ argument.Slots ∷ argument.Kind ∷ []
 arguments_of command.Show =
@@ -190,7 +190,7 @@ arguments_of command.Preview = argument.Service ∷ argument.Page ∷ argument.F
 arguments_of command.Splice =
     argument.Old ∷ argument.New ∷ argument.OldService ∷ argument.NewService ∷ argument.OldCertificate ∷ argument.NewCertificate ∷ argument.Sent ∷ argument.SplicedLate ∷ []
 arguments_of command.Wait =
-    argument.Cycle ∷ argument.Service ∷ argument.Repeat ∷ argument.Class ∷ argument.Items ∷ argument.WaitNumbers ∷ []
+    argument.Cycle ∷ argument.Service ∷ argument.Repeat ∷ argument.Class ∷ argument.Items ∷ argument.WaitNumbers ∷ argument.Json ∷ []
 arguments_of command.Send =
     argument.Cycle ∷ argument.At ∷ argument.Fields ∷ argument.NeededLines ∷ argument.Phase ∷ argument.Offset ∷ argument.Zone ∷ argument.Force ∷ []
 arguments_of command.Monitor =

@@ -22,7 +22,8 @@ apart one other = record { one = one; other = other }
 abbrev pub conflicts_of : CommandName → List Conflict
 conflicts_of command.Certify =
     apart argument.CertifyAll argument.Late ∷ apart argument.CertifyAll argument.Numbers ∷ apart argument.CertifyAll argument.Twice
-    ∷ apart argument.CertifyAll argument.Within ∷ []
+    ∷ apart argument.CertifyAll argument.Within ∷ apart argument.Json argument.Numbers ∷ apart argument.Json argument.Twice ∷ []
+conflicts_of command.Wait = apart argument.Json argument.Items ∷ apart argument.Json argument.WaitNumbers ∷ []
 conflicts_of command.Monitor = apart argument.Rows argument.MonitorAll ∷ apart argument.Rows argument.Every ∷ []
 conflicts_of command.Air = apart argument.AirLate argument.AtOnce ∷ []
 conflicts_of _ = []

@@ -8,6 +8,7 @@
 --   RepeatWords              a number at the end of its range, and one beyond it
 --   SpliceWords, WaitWords   a number that need not be there; options without a value
 --   MonitorWords             a slot that need not be there, and two inputs that are standard input
+--   RefuteWords              an option with a value beside one without
 --   ExplainWords             an operand that names no file; an option of one command, and no other
 --   AirWords, ComposeWords   when nothing is said of the time, the end and the receivers; an input and an output that are standard streams
 --   TwiceWords               standard input for two inputs, and for a cycle that is read twice
@@ -16,7 +17,7 @@ use Rattle.clap.specs.Words.{Text, fault_of}
 use Rattle.clap.specs.declared.error.kind.ErrorKind.TheVariants.{DisplayVersion, MissingRequiredArgument, ValueValidation}
 use Rattle.ttx_page.specs.declared.class.Class.TheVariants.{Any}
 use Rattle.ttx_arguments.specs.Grammar.{ttx_app}
-use Rattle.ttx_arguments.specs.Orders.{Asks, OrderView, certify_order, find_order, monitor_order, plan_order, send_order, splice_order, wait_order, no_time, two_clocks, no_seconds, two_deadlines, within_and_more, numbers_unfit, named_twice, apart, explain_order, pages_order}
+use Rattle.ttx_arguments.specs.Orders.{Asks, OrderView, certify_order, find_order, monitor_order, plan_order, send_order, splice_order, wait_order, no_time, two_clocks, no_seconds, two_deadlines, within_and_more, numbers_unfit, named_twice, apart, explain_order, pages_order, refute_order}
 use Rattle.ttx_arguments.specs.Orders.{air_order, compose_order}
 use Rattle.ttx_arguments.specs.Seconds.{fields_of}
 use Rattle.ttx_arguments.specs.Timings.{StartView, start_now, start_utc, start_text, ClockView, clock_ahead, clock_in}
@@ -33,7 +34,7 @@ abbrev certify_texts : List Text
 certify_texts = codes "certify" ∷ codes "c" ∷ codes "s" ∷ codes "k" ∷ []
 
 abbrev certified : Bool → Bool → Option ℕ → OrderView
-certified late numbers within = certify_order (codes "c") (codes "s") (codes "k") late numbers false within false
+certified late numbers within = certify_order (codes "c") (codes "s") (codes "k") late numbers false within false false
 
 abbrev pub CertifyWords : Type 0
 CertifyWords =
@@ -46,8 +47,11 @@ CertifyWords =
     × Asks (ttx_app names) (certify_texts ++ codes "--numbers" ∷ []) (Err numbers_unfit)
     × Asks (ttx_app names) (certify_texts ++ codes "--late" ∷ codes "--numbers" ∷ codes "--twice" ∷ []) (Err numbers_unfit)
     × Asks (ttx_app names) (certify_texts ++ codes "--late" ∷ codes "--numbers" ∷ codes "--within" ∷ codes "1" ∷ []) (Err numbers_unfit)
-    × Asks (ttx_app names) (certify_texts ++ codes "--all" ∷ []) (Ok (certify_order (codes "c") (codes "s") (codes "k") false false false None true))
+    × Asks (ttx_app names) (certify_texts ++ codes "--all" ∷ []) (Ok (certify_order (codes "c") (codes "s") (codes "k") false false false None true false))
     × Asks (ttx_app names) (certify_texts ++ codes "--all" ∷ codes "--within=1" ∷ []) (Err (apart (conflicts.apart argument.CertifyAll argument.Within)))
+    × Asks (ttx_app names) (certify_texts ++ codes "--all" ∷ codes "--json" ∷ [])
+    (Ok (certify_order (codes "c") (codes "s") (codes "k") false false false None true true))
+    × Asks (ttx_app names) (certify_texts ++ codes "--json" ∷ codes "--twice" ∷ []) (Err (apart (conflicts.apart argument.Json argument.Twice)))
 
 abbrev send_texts : Text → List Text
 send_texts at = codes "send" ∷ codes "c" ∷ codes "--at" ∷ at ∷ codes "--fields" ∷ codes "3" ∷ codes "--lines" ∷ codes "12" ∷ []
@@ -127,7 +131,7 @@ abbrev wait_texts : List Text
 wait_texts = codes "wait" ∷ codes "c" ∷ codes "s" ∷ []
 
 abbrev waited : Bool → Bool → OrderView
-waited items numbers = wait_order (codes "c") (codes "s") 1 Any items numbers
+waited items numbers = wait_order (codes "c") (codes "s") 1 Any items numbers false
 
 abbrev pub WaitWords : Type 0
 WaitWords =
@@ -135,6 +139,17 @@ WaitWords =
     × Asks (ttx_app names) (wait_texts ++ codes "--items" ∷ []) (Ok (waited true false))
     × Asks (ttx_app names) (wait_texts ++ codes "--numbers" ∷ []) (Ok (waited false true))
     × Asks (ttx_app names) (wait_texts ++ codes "--numbers" ∷ codes "--items" ∷ []) (Ok (waited true true))
+    × Asks (ttx_app names) (wait_texts ++ codes "--json" ∷ []) (Ok (wait_order (codes "c") (codes "s") 1 Any false false true))
+    × Asks (ttx_app names) (wait_texts ++ codes "--items" ∷ codes "--json" ∷ []) (Err (apart (conflicts.apart argument.Json argument.Items)))
+
+abbrev refute_texts : List Text
+refute_texts = codes "refute" ∷ codes "c" ∷ codes "s" ∷ codes "k" ∷ []
+
+abbrev pub RefuteWords : Type 0
+RefuteWords =
+    (names : Names) → Asks (ttx_app names) refute_texts (Ok (refute_order (codes "c") (codes "s") (codes "k") None false))
+    × Asks (ttx_app names) (refute_texts ++ codes "--json" ∷ codes "--save=o" ∷ [])
+    (Ok (refute_order (codes "c") (codes "s") (codes "k") (Some (codes "o")) true))
 
 abbrev monitor_texts : List Text
 monitor_texts = codes "monitor" ∷ codes "c" ∷ codes "s" ∷ codes "k" ∷ codes "-" ∷ []

@@ -62,14 +62,14 @@ pub data OrderView : Type 0 where
   inspect_order : (file : Text) → OrderView
   plan_order : (service out : Text) → (class : Class) → (late spread : Bool) → OrderView
   find_order : (cycle service out : Text) → (repeat : ℕ) → (class : Class) → (deadline : Option ℕ) → OrderView
-  certify_order : (cycle service certificate : Text) → (late numbers twice : Bool) → (within : Option ℕ) → (all : Bool) → OrderView
-  refute_order : (cycle service certificate : Text) → (save : Option Text) → OrderView
+  certify_order : (cycle service certificate : Text) → (late numbers twice : Bool) → (within : Option ℕ) → (all json : Bool) → OrderView
+  refute_order : (cycle service certificate : Text) → (save : Option Text) → (json : Bool) → OrderView
   replay_order : (cycle service counter : Text) → OrderView
   receive_order : (cycle : Text) → (tuning : Tuning) → OrderView
   show_order : (cycle : Text) → (tuning : Tuning) → (look : LookView) → OrderView
   preview_order : (service : Text) → (selection : Selection) → (look : LookView) → OrderView
   splice_order : (old new old_service new_service old_certificate new_certificate : Text) → (sent : Option ℕ) → (late : Bool) → OrderView
-  wait_order : (cycle service : Text) → (repeat : ℕ) → (class : Class) → (items numbers : Bool) → OrderView
+  wait_order : (cycle service : Text) → (repeat : ℕ) → (class : Class) → (items numbers json : Bool) → OrderView
   send_order : (cycle : Text) → (timing : TimingView) → (sending : Sending) → (force : Bool) → OrderView
   monitor_order : (cycle service certificate feed : Text) → (start : Option ℕ) → (all : Bool) → (every : Option ℕ) → (rows : Bool) → OrderView
   air_order : (service : Text) → (within repeat : ℕ) → (timing : TimingView) → (fields : Option ℕ) → (late spread : Bool) → (log : Option Text) → (force : Bool) → OrderView
@@ -87,15 +87,15 @@ abbrev pub order_view : Order → OrderView
 order_view (Inspect file) = inspect_order file.now
 order_view (Plan o) = plan_order o.service.now o.out.now o.class o.late o.spread
 order_view (Find o) = find_order o.cycle.now o.service.now o.out.now o.repeat o.class o.deadline
-order_view (Certify o) = certify_order o.cycle.now o.service.now o.certificate.now o.late o.numbers o.twice o.within o.all
-order_view (Refute o) = refute_order o.cycle.now o.service.now o.certificate.now (option_map (λ s. s.now) o.save)
+order_view (Certify o) = certify_order o.cycle.now o.service.now o.certificate.now o.late o.numbers o.twice o.within o.all o.json
+order_view (Refute o) = refute_order o.cycle.now o.service.now o.certificate.now (option_map (λ s. s.now) o.save) o.json
 order_view (Replay o) = replay_order o.cycle.now o.service.now o.counter.now
 order_view (Receive cycle tuning) = receive_order cycle.now tuning
 order_view (Show cycle tuning look) = show_order cycle.now tuning (look_view look)
 order_view (Preview service selection look) = preview_order service.now selection (look_view look)
 order_view (Splice o) =
     splice_order o.old.now o.new.now o.old_service.now o.new_service.now o.old_certificate.now o.new_certificate.now o.sent o.late
-order_view (Wait o) = wait_order o.cycle.now o.service.now o.repeat o.class o.items o.numbers
+order_view (Wait o) = wait_order o.cycle.now o.service.now o.repeat o.class o.items o.numbers o.json
 order_view (Send o) = send_order o.cycle.now (timing_view o.timing) o.sending o.force
 order_view (Air o) =
     air_order o.service.now o.within o.repeat (timing_view o.timing) o.fields o.late o.spread (option_map (λ s. s.now) o.log) o.force
@@ -218,7 +218,7 @@ abbrev pub certify_with : Option ℕ → List Row → OrderView
 certify_with within rows =
     certify_order (text_at argument.Cycle rows) (text_at argument.Service rows) (text_at argument.Certificate rows)
     (is_set argument.Late rows) (is_set argument.Numbers rows) (is_set argument.Twice rows) within
-    (is_set argument.CertifyAll rows)
+    (is_set argument.CertifyAll rows) (is_set argument.Json rows)
 
 abbrev pub certify_required : Option ℕ → List Row → Result OrderView Unfit
 certify_required None rows = Err no_seconds
@@ -248,6 +248,7 @@ certify_at rows = certify_by (is_set argument.Numbers rows) (given_at argument.W
 abbrev pub refute_at : List Row → OrderView
 refute_at rows =
     refute_order (text_at argument.Cycle rows) (text_at argument.Service rows) (text_at argument.Certificate rows) (given_at argument.Save rows)
+    (is_set argument.Json rows)
 
 abbrev pub replay_at : List Row → OrderView
 replay_at rows = replay_order (text_at argument.Cycle rows) (text_at argument.Service rows) (text_at argument.Counter rows)
@@ -271,6 +272,7 @@ abbrev pub wait_at : List Row → OrderView
 wait_at rows =
     wait_order (text_at argument.Cycle rows) (text_at argument.Service rows) (repeat_at rows)
     (class_named (text_at argument.Class rows)) (is_set argument.Items rows) (is_set argument.WaitNumbers rows)
+    (is_set argument.Json rows)
 
 abbrev pub monitor_at : List Row → OrderView
 monitor_at rows =

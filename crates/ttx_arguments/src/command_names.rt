@@ -179,9 +179,9 @@ impl CommandName {
             ],
             CommandName::Certify => &[
                 Argument::Cycle, Argument::Service, Argument::Certificate, Argument::Late,
-                Argument::Numbers, Argument::Twice, Argument::Within, Argument::CertifyAll,
+                Argument::Numbers, Argument::Twice, Argument::Within, Argument::CertifyAll, Argument::Json,
             ],
-            CommandName::Refute => &[Argument::Cycle, Argument::Service, Argument::Certificate, Argument::Save],
+            CommandName::Refute => &[Argument::Cycle, Argument::Service, Argument::Certificate, Argument::Save, Argument::Json],
             CommandName::Replay => &[Argument::Cycle, Argument::Service, Argument::Counter],
             CommandName::Receive => &[Argument::Cycle, Argument::Page, Argument::Lines, Argument::Start, Argument::Slots, Argument::Kind],
             CommandName::Show => &[
@@ -195,7 +195,7 @@ impl CommandName {
             ],
             CommandName::Wait => &[
                 Argument::Cycle, Argument::Service, Argument::Repeat, Argument::Class, Argument::Items,
-                Argument::WaitNumbers,
+                Argument::WaitNumbers, Argument::Json,
             ],
             CommandName::Send => &[
                 Argument::Cycle, Argument::At, Argument::Fields, Argument::NeededLines,

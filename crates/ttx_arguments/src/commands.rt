@@ -156,6 +156,7 @@ fn certify_with<'a>(values: &ArgMatches<'a>, within: Option<Fields>) -> Order<'a
         twice: is_set(values, Argument::Twice),
         within,
         all: is_set(values, Argument::CertifyAll),
+        json: is_set(values, Argument::Json),
     })
 }
 
@@ -205,6 +206,7 @@ pub(crate) fn refute_of<'a>(values: &ArgMatches<'a>) -> Order<'a>
         service: text_of(values, Argument::Service),
         certificate: text_of(values, Argument::Certificate),
         save: given(values, Argument::Save),
+        json: is_set(values, Argument::Json),
     })
 }
 
@@ -243,6 +245,7 @@ pub(crate) fn wait_of<'a>(values: &ArgMatches<'a>) -> Order<'a>
         class: class_of(values),
         items: is_set(values, Argument::Items),
         numbers: is_set(values, Argument::WaitNumbers),
+        json: is_set(values, Argument::Json),
     })
 }
 

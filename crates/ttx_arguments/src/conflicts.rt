@@ -29,6 +29,12 @@ fn conflicts<'a>(command: CommandName) -> &'a [Conflict]
             Conflict { one: Argument::CertifyAll, other: Argument::Numbers },
             Conflict { one: Argument::CertifyAll, other: Argument::Twice },
             Conflict { one: Argument::CertifyAll, other: Argument::Within },
+            Conflict { one: Argument::Json, other: Argument::Numbers },
+            Conflict { one: Argument::Json, other: Argument::Twice },
+        ],
+        CommandName::Wait => &[
+            Conflict { one: Argument::Json, other: Argument::Items },
+            Conflict { one: Argument::Json, other: Argument::WaitNumbers },
         ],
         CommandName::Monitor => &[
             Conflict { one: Argument::Rows, other: Argument::MonitorAll },

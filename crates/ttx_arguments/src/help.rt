@@ -191,6 +191,7 @@ Statuses:
      refused: within (with --late or --twice),
      refused: numbers (without --late, or with --within or --twice),
      refused: --all with .. (--late, --numbers, --twice or --within),
+     refused: --json with .. (--numbers or --twice),
      refused: twice, refused: cycle NUMBER NAME [REST],
      refused: service NUMBER NAME [KEY] page N, refused: service too-long,
      refused: certificate NUMBER NAME [line N], refused: certificate too-long
@@ -447,8 +448,8 @@ the order of their first pages, each one of
 Statuses:
   0  there is a deadline for all pages, and none is too late
   1  there is none, or a page is too late
-  2  error: .. (the arguments), refused: twice,
-     refused: cycle NUMBER NAME [REST],
+  2  error: .. (the arguments), refused: --json with .. (--items or --numbers),
+     refused: twice, refused: cycle NUMBER NAME [REST],
      refused: service NUMBER NAME [KEY] page N, refused: service too-long
   3  fault: file, fault: read, fault: write, fault: memory";
 

@@ -1,6 +1,6 @@
 //! What some words ask for, computed from the definitions: examples that hold the grammar and the orders to what a user types.
 
-ghost use Rattle.ttx_arguments.specs.Examples.{VersionWords, CertifyWords, SendWords, PlanWords, SecondsTexts, FindWords, RepeatWords, SpliceWords, WaitWords, MonitorWords, ExplainWords, AirWords, ComposeWords, TwiceWords};
+ghost use Rattle.ttx_arguments.specs.Examples.{VersionWords, CertifyWords, SendWords, PlanWords, SecondsTexts, FindWords, RepeatWords, SpliceWords, WaitWords, MonitorWords, ExplainWords, AirWords, ComposeWords, TwiceWords, RefuteWords};
 
 /// `--version` and `-V` ask for the version, also before other words.
 pub fn version_words()
@@ -8,7 +8,7 @@ pub fn version_words()
 {}
 
 /// `certify` with `--late` asks for the verdict on late receivers, and not to read the cycle twice; half a second is 25 fields, and goes
-/// with neither `--twice` nor `--late`; `--numbers` goes with `--late` alone, and `--all` goes alone.
+/// with neither `--twice` nor `--late`; `--numbers` goes with `--late` alone, and `--all` with `--json` alone.
 pub fn certify_words()
     ensures { CertifyWords }
 {}
@@ -44,7 +44,7 @@ pub fn splice_words()
     ensures { SpliceWords }
 {}
 
-/// `wait` takes `--items` and `--numbers`, alone and together.
+/// `wait` takes `--items` and `--numbers`, alone and together, and `--json` alone.
 pub fn wait_words()
     ensures { WaitWords }
 {}
@@ -53,6 +53,11 @@ pub fn wait_words()
 /// goes `--rows`.
 pub fn monitor_words()
     ensures { MonitorWords }
+{}
+
+/// `refute` takes a file for the counter-run, and `--json`.
+pub fn refute_words()
+    ensures { RefuteWords }
 {}
 
 /// `explain` takes a reason, and `pages` an option without a value.

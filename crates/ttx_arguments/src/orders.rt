@@ -123,6 +123,8 @@ pub struct CertifyOrder<'a> {
     pub within: Option<Fields>,
     /// Whether each page has a line with its first reason; not with `late`, `twice` or `within`.
     pub all: bool,
+    /// Whether the answer is written as JSON; not with `numbers` or `twice`.
+    pub json: bool,
 }
 
 /// What `refute` is asked for.
@@ -133,6 +135,8 @@ pub struct RefuteOrder<'a> {
     pub certificate: &'a str,
     /// The file that the counter-run goes to.
     pub save: Option<&'a str>,
+    /// Whether the answer is written as JSON.
+    pub json: bool,
 }
 
 /// What `replay` is asked for.
@@ -169,6 +173,8 @@ pub struct WaitOrder<'a> {
     pub items: bool,
     /// Whether each number with several pages has a line, too.
     pub numbers: bool,
+    /// Whether the answer is written as JSON; not with `items` or `numbers`.
+    pub json: bool,
 }
 
 /// What `monitor` is asked for.

@@ -6,6 +6,7 @@ pub mod beginnings;
 pub mod book;
 pub mod certify;
 pub mod certify_all;
+pub mod certify_json;
 pub mod certify_numbers;
 pub mod certify_within;
 pub mod check;
@@ -33,6 +34,7 @@ pub mod splice_late;
 pub mod splice_sent;
 pub mod version;
 pub mod wait;
+pub mod wait_json;
 pub mod wait_numbers;
 
 pub use reports::{report, report_air, report_extraction, report_words};

@@ -70,17 +70,54 @@ fn certify_readers_all(rt: &HostRuntime, readers: &mut ClaimReaders) -> Result<u
     )
 }
 
+// The verdict as a line, and what stands below it.
+fn certify_in_lines(
+    rt: &HostRuntime,
+    readers: &mut ClaimReaders,
+    order: &CertifyOrder<'_>,
+) -> Result<u8, ToolFault> {
+    match order.within {
+        None if order.numbers => certify_readers_numbers(rt, readers),
+        None if order.all => certify_readers_all(rt, readers),
+        None => certify_readers(rt, readers, order.late),
+        Some(fields) => certify_readers_within(rt, readers, fields.count()),
+    }
+}
+
+// The same as JSON objects.
+fn certify_as_json(
+    rt: &HostRuntime,
+    readers: &mut ClaimReaders,
+    order: &CertifyOrder<'_>,
+) -> Result<u8, ToolFault> {
+    let (cycle, service, text) = (&mut readers.cycle, &mut readers.service, &mut readers.text);
+    let mut writer = Counted::new(io::writer(rt));
+    let alloc = rt.alloc();
+    match order.within {
+        None if order.all => {
+            commands::certify_json::run_all(alloc, cycle, service, text, &mut writer)
+        }
+        None if order.late => {
+            commands::certify_json::run_late(alloc, cycle, service, text, &mut writer)
+        }
+        None => commands::certify_json::run(alloc, cycle, service, text, &mut writer),
+        Some(fields) => {
+            let required = fields.count();
+            commands::certify_json::run_within(alloc, cycle, service, text, required, &mut writer)
+        }
+    }
+}
+
 fn certify_claim(
     rt: &HostRuntime,
     claim: Claim,
     order: &CertifyOrder<'_>,
 ) -> Result<u8, ToolFault> {
     let mut readers = claim.readers(rt)?;
-    match order.within {
-        None if order.numbers => certify_readers_numbers(rt, &mut readers),
-        None if order.all => certify_readers_all(rt, &mut readers),
-        None => certify_readers(rt, &mut readers, order.late),
-        Some(fields) => certify_readers_within(rt, &mut readers, fields.count()),
+    if order.json {
+        certify_as_json(rt, &mut readers, order)
+    } else {
+        certify_in_lines(rt, &mut readers, order)
     }
 }
 
@@ -229,9 +266,28 @@ fn wait_in_numbers(
     )
 }
 
+// The same as JSON objects.
+fn wait_as_json(
+    rt: &HostRuntime,
+    readers: &mut SentServiceReaders,
+    order: &WaitOrder<'_>,
+) -> Result<u8, ToolFault> {
+    let mut writer = Counted::new(io::writer(rt));
+    commands::wait_json::run(
+        rt.alloc(),
+        &mut readers.cycle,
+        &mut readers.service,
+        order.repeat.count(),
+        order.class,
+        &mut writer,
+    )
+}
+
 fn wait_for(rt: &HostRuntime, inputs: SentService, order: &WaitOrder<'_>) -> Result<u8, ToolFault> {
     let mut readers = inputs.readers(rt)?;
-    if order.numbers {
+    if order.json {
+        wait_as_json(rt, &mut readers, order)
+    } else if order.numbers {
         wait_in_numbers(rt, &mut readers, order)
     } else {
         wait_in(rt, &mut readers, order)

@@ -8,13 +8,14 @@ use std::io;
 use std::io::Write;
 use ttx_arguments::{RefuteOrder, ReplayOrder};
 use ttx_cycle::Counted;
+use ttx_tool::commands::refute::Asked;
 use ttx_tool::{ToolFault, commands};
 
 // Looks for a viewer whom a cycle fails: status 1 where there is one, else 0.
 fn refute_readers<O: Write>(
     rt: &HostRuntime,
     readers: &mut ClaimReaders,
-    save: bool,
+    asked: Asked,
     file: &mut Counted<O>,
 ) -> Result<u8, ToolFault> {
     let mut writer = Counted::new(io::writer(rt));
@@ -23,7 +24,7 @@ fn refute_readers<O: Write>(
         &mut readers.cycle,
         &mut readers.service,
         &mut readers.text,
-        save,
+        asked,
         file,
         &mut writer,
     )
@@ -32,23 +33,27 @@ fn refute_readers<O: Write>(
 fn refute_claim<O: Write + Drop>(
     rt: &HostRuntime,
     claim: Claim,
-    save: bool,
+    asked: Asked,
     out: O,
 ) -> Result<u8, ToolFault> {
     let mut file = Counted::new(out);
     let mut readers = claim.readers(rt)?;
-    refute_readers(rt, &mut readers, save, &mut file)
+    refute_readers(rt, &mut readers, asked, &mut file)
 }
 
 /// Opens the cycle, the service and the certificate, makes the counter-run's file anew where it is named, and refutes.
 pub fn refute(rt: &HostRuntime, order: &RefuteOrder<'_>) -> Outcome {
     let claim = Claim::open(rt, order.cycle, order.service, order.certificate)?;
+    let asked = Asked {
+        save: order.save.is_some(),
+        json: order.json,
+    };
     let Some(out) = order.save else {
-        return Ok(status_of(rt, refute_claim(rt, claim, false, io::sink())));
+        return Ok(status_of(rt, refute_claim(rt, claim, asked, io::sink())));
     };
     let inputs = [&claim.cycle, &claim.service, &claim.text];
     match create_out(rt, &inputs, out)? {
-        Some(file) => Ok(status_of(rt, refute_claim(rt, claim, true, file))),
+        Some(file) => Ok(status_of(rt, refute_claim(rt, claim, asked, file))),
         None => Ok(report(rt, &ToolFault::Same)),
     }
 }

@@ -26,7 +26,8 @@ pub(super) fn verdict_status(verdict: Verdict) -> u8
     }
 }
 
-fn late_status(verdict: LateVerdict) -> u8
+/// 0 for a yes, 1 for a no.
+pub(super) fn late_status(verdict: LateVerdict) -> u8
     ensures { result ≡ late_status verdict }
 {
     match verdict {

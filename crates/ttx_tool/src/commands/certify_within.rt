@@ -14,7 +14,8 @@ use std::io::{Read, Write};
 use ttx_cycle::Counted;
 use ttx_deadline::{RequiredVerdict, certify_files_required};
 
-fn required_status(verdict: RequiredVerdict) -> u8
+/// 0 for a yes, 1 for a no.
+pub(super) fn required_status(verdict: RequiredVerdict) -> u8
     ensures { result ≡ required_status verdict }
 {
     match verdict {

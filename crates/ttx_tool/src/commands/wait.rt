@@ -30,7 +30,8 @@ pub(super) struct Question {
     pub detail: Detail,
 }
 
-fn wait_status(deadline: Option<u32>) -> u8
+/// 0 if there is a deadline, otherwise 1.
+pub(super) fn wait_status(deadline: Option<u32>) -> u8
     ensures { result ≡ wait_status deadline }
 {
     match deadline {

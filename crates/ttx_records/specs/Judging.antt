@@ -1,0 +1,58 @@
+-- The verdicts on a cycle, the pages of a service and a certificate, each with its JSON objects.
+--
+--   IsRecorded, IsAllRecorded       for receivers that show pages at once; with the first reason of each page
+--   IsLateRecorded          for those that show pages late
+--   IsRequiredRecorded      with a deadline that is required
+--   CertifiesJson, CertifiesAllJson, CertifiesLateJson, CertifiesRequiredJson       what has been written, for each answer
+use Rattle.std.specs.Prelude.{◌≡◌, ℕ, List, length, Option, Result}
+use Rattle.ttx_files.specs.Judging as files
+use Rattle.ttx_files.specs.declared.faults.FilesFault.{FilesFault}
+use Rattle.ttx_source.specs.Services.{ServiceFields, pages_of}
+use Rattle.ttx_certificate.specs.Entries.{CertificateFields, certificate_at}
+use Rattle.ttx_certify.specs.AllReasons.{AreReasons}
+use Rattle.ttx_certify.specs.declared.all_reasons.PageReason.{PageReason}
+use Rattle.ttx_certify.specs.Verdicts.{IsVerdict, Means}
+use Rattle.ttx_certify.specs.declared.verdict.Verdict.{Verdict}
+use Rattle.ttx_late.specs.LateVerdicts.{IsLateVerdict, MeansLate}
+use Rattle.ttx_late.specs.declared.verdict.LateVerdict.{LateVerdict}
+use Rattle.ttx_deadline.specs.Requirements.{IsRequiredVerdict, MeansRequired}
+use Rattle.ttx_deadline.specs.declared.requirements.RequiredVerdict.{RequiredVerdict}
+use Rattle.ttx_records.specs.Verdicts.{verdict_record, all_records}
+use Rattle.ttx_records.specs.LateVerdicts.{late_record}
+use Rattle.ttx_records.specs.Requirements.{required_record}
+
+pub record IsRecorded (slots : List (List ℕ)) (service : ServiceFields) (w : CertificateFields) (verdict : Verdict) (text : List ℕ) : Type 0 where
+  pub exact : IsVerdict slots (pages_of service) (certificate_at w) verdict
+  pub seen : Means slots (pages_of service) (certificate_at w) verdict
+  pub text_is : text ≡ verdict_record w (length service.pages) verdict
+
+pub record IsAllRecorded (slots : List (List ℕ)) (service : ServiceFields) (w : CertificateFields) (verdict : Verdict) (text : List ℕ) : Type 0 where
+  pub exact : IsVerdict slots (pages_of service) (certificate_at w) verdict
+  pub seen : Means slots (pages_of service) (certificate_at w) verdict
+  pub told : List PageReason
+  pub reasons : AreReasons slots (pages_of service) (certificate_at w) told
+  pub text_is : text ≡ all_records w verdict told
+
+pub record IsLateRecorded (slots : List (List ℕ)) (service : ServiceFields) (w : CertificateFields) (verdict : LateVerdict) (text : List ℕ)
+    : Type 0 where
+  pub exact : IsLateVerdict slots (pages_of service) (certificate_at w) verdict
+  pub seen : MeansLate slots (pages_of service) (certificate_at w) verdict
+  pub text_is : text ≡ late_record w (length service.pages) verdict
+
+pub record IsRequiredRecorded (slots : List (List ℕ)) (service : ServiceFields) (w : CertificateFields) (required : Option ℕ)
+    (verdict : RequiredVerdict) (text : List ℕ) : Type 0 where
+  pub exact : IsRequiredVerdict slots service w required verdict
+  pub means : MeansRequired slots service w required verdict
+  pub text_is : text ≡ required_record w (length service.pages) verdict
+
+abbrev pub CertifiesJson : List ℕ → List ℕ → List ℕ → Option (List ℕ) → Option (List ℕ) → Result Verdict FilesFault → Type 0
+CertifiesJson = files.AnswersFiles IsRecorded
+
+abbrev pub CertifiesAllJson : List ℕ → List ℕ → List ℕ → Option (List ℕ) → Option (List ℕ) → Result Verdict FilesFault → Type 0
+CertifiesAllJson = files.AnswersFiles IsAllRecorded
+
+abbrev pub CertifiesLateJson : List ℕ → List ℕ → List ℕ → Option (List ℕ) → Option (List ℕ) → Result LateVerdict FilesFault → Type 0
+CertifiesLateJson = files.AnswersFiles IsLateRecorded
+
+abbrev pub CertifiesRequiredJson : List ℕ → List ℕ → List ℕ → Option ℕ → Option (List ℕ) → Option (List ℕ) → Result RequiredVerdict FilesFault → Type 0
+CertifiesRequiredJson a b c required = files.AnswersFiles (λ slots service w. IsRequiredRecorded slots service w required) a b c
