@@ -430,6 +430,8 @@ def extracted_texts():
         "extracted-twice.toml": serial + extracted(100, "often = 2\n") + extracted(200),
         "extracted-subpages.toml": serial + extracted(100) + extracted(100, 'sub = "0001"\n'),
         "extracted-no-pages.toml": "lines = 32\nserial = true\n",
+        "extracted-nothing.toml": serial,
+        "extracted-second.toml": serial + extracted(101) + '8 = "A"\n',
     }
 
 
@@ -437,6 +439,7 @@ def unlike():
     """Cycles that no service describes."""
     return {
         "row-5-unlike.t42": [*base(), *with_byte(base(), 7, 2, 0xC1)],
+        "two-pages-erased.t42": with_byte(two_pages(), 19, 5, 0xD0),
         "even-parity.t42": with_byte(base(), 5, 41, 0xA0),
         "minus-zero.t42": with_byte([EMPTY, INFO, *base()], 1, 11, 0xC1),
     }

@@ -37,7 +37,7 @@ for command in "inspect long.t42" "plan broadcast.toml out" "plan broadcast.toml
     "certify long.t42 base.toml long.cert --twice" "refute long.t42 base.toml long.cert" "preview broadcast.toml 130" "receive long.t42 100 --slots 20000" "show long.t42 100 --slots 20000" \
     "splice long.t42 long.t42 base.toml base.toml long.cert long.cert" \
     "wait long.t42 base.toml" "send long.t42 --at 61000/000000 --fields 100 --lines 12" "replay long.t42 base.toml long.counter" "pages long.t42" "book long.t42 out" "extract long.t42 out --lines 12" "check broadcast.toml" \
-    "certify long.t42 base.toml long.cert --json" "wait long.t42 base.toml --json"; do
+    "certify long.t42 base.toml long.cert --json" "wait long.t42 base.toml --json" "extract long.t42 out --lines 12 --partial"; do
     finished=0
     refused=0
     rm -f out

@@ -75,6 +75,7 @@ COMMANDS = [
     ("book small.t42 out", True),
     ("extract base.t42 out --lines 2", True),
     ("extract unlike.t42 out --lines 2", True),
+    ("extract unlike.t42 out --lines 2 --partial", True),
     ("check check-misspelt.toml", True),
     ("check check-row-of-47.toml", True),
     ("certify missing base.toml base.cert", True),

@@ -66,7 +66,12 @@ pub fn run_order(rt: &HostRuntime, order: &Order<'_>) -> Outcome {
         Order::Monitor(order) => feeds::monitor(rt, order),
         Order::Pages { cycle, json } => cycles::pages(rt, cycle, *json),
         Order::Book { cycle, out } => cycles::book(rt, cycle, out),
-        Order::Extract { cycle, out, lines } => cycles::extract(rt, cycle, out, lines.count()),
+        Order::Extract {
+            cycle,
+            out,
+            lines,
+            partial,
+        } => cycles::extract(rt, cycle, out, lines.count(), *partial),
         Order::Check { service } => services::check(rt, service),
         Order::Version => Ok(status_of(rt, version(rt))),
     }

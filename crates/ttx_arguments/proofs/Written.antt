@@ -11,7 +11,7 @@ use Rattle.ttx_arguments.specs.Grammar.{ttx_app}
 use Rattle.ttx_arguments.specs.Orders.{Asks, order_at}
 use Rattle.ttx_arguments.specs.Moments.{moment_of}
 use Rattle.ttx_arguments.specs.Seconds.{fields_of, hundredths_of}
-use Rattle.ttx_arguments.specs.Examples.{VersionWords, CertifyWords, SendWords, PlanWords, SecondsTexts, FindWords, RepeatWords, SpliceWords, WaitWords, MonitorWords, ExplainWords, AirWords, ComposeWords, TwiceWords, RefuteWords}
+use Rattle.ttx_arguments.specs.Examples.{VersionWords, CertifyWords, SendWords, PlanWords, SecondsTexts, FindWords, RepeatWords, SpliceWords, WaitWords, MonitorWords, ExplainWords, AirWords, ComposeWords, TwiceWords, RefuteWords, ExtractWords}
 
 pub version_words : VersionWords
 unfolding ttx_app walked bundle_met chars encode_utf8 flags_pass walk_passes flags_fault walk_fault defaults_fault
@@ -87,6 +87,10 @@ monitor_words names = (
   inl (refl, refl),
   refl,
 )
+
+pub extract_words : ExtractWords
+unfolding ttx_app walked bundle_met chars encode_utf8 flags_pass walk_passes flags_fault walk_fault defaults_fault Asks order_at command_named
+extract_words names = (inl (refl, refl), inl (refl, refl))
 
 pub explain_words : ExplainWords
 unfolding ttx_app walked bundle_met chars encode_utf8 flags_pass walk_passes flags_fault walk_fault defaults_fault Asks order_at command_named

@@ -79,6 +79,7 @@ id_of argument.Json = codes "json"
 id_of argument.MonitorAll = codes "all"
 id_of argument.CertifyAll = codes "all"
 id_of argument.Rows = codes "rows"
+id_of argument.Partial = codes "partial"
 
 -- Ranges of numbers are inclusive.
 abbrev pub takes_of : Argument → Takes
@@ -122,6 +123,7 @@ takes_of argument.Json = takes.Nothing
 takes_of argument.MonitorAll = takes.Nothing
 takes_of argument.CertifyAll = takes.Nothing
 takes_of argument.Rows = takes.Nothing
+takes_of argument.Partial = takes.Nothing
 takes_of _ = takes.Operand
 
 -- an operand always has to be there
@@ -198,7 +200,7 @@ arguments_of command.Monitor =
     ∷ argument.Every ∷ argument.Rows ∷ []
 arguments_of command.Pages = argument.Cycle ∷ argument.Json ∷ []
 arguments_of command.Book = argument.Cycle ∷ argument.Book ∷ []
-arguments_of command.Extract = argument.Cycle ∷ argument.Extracted ∷ argument.NeededLines ∷ []
+arguments_of command.Extract = argument.Cycle ∷ argument.Extracted ∷ argument.NeededLines ∷ argument.Partial ∷ []
 arguments_of command.Check = argument.Service ∷ []
 arguments_of command.Version = []
 arguments_of command.Air =

@@ -9,6 +9,7 @@
 --   SpliceWords, WaitWords   a number that need not be there; options without a value
 --   MonitorWords             a slot that need not be there, and two inputs that are standard input
 --   RefuteWords              an option with a value beside one without
+--   ExtractWords             an option without a value beside one that is needed
 --   ExplainWords             an operand that names no file; an option of one command, and no other
 --   AirWords, ComposeWords   when nothing is said of the time, the end and the receivers; an input and an output that are standard streams
 --   TwiceWords               standard input for two inputs, and for a cycle that is read twice
@@ -17,7 +18,7 @@ use Rattle.clap.specs.Words.{Text, fault_of}
 use Rattle.clap.specs.declared.error.kind.ErrorKind.TheVariants.{DisplayVersion, MissingRequiredArgument, ValueValidation}
 use Rattle.ttx_page.specs.declared.class.Class.TheVariants.{Any}
 use Rattle.ttx_arguments.specs.Grammar.{ttx_app}
-use Rattle.ttx_arguments.specs.Orders.{Asks, OrderView, certify_order, find_order, monitor_order, plan_order, send_order, splice_order, wait_order, no_time, two_clocks, no_seconds, two_deadlines, within_and_more, numbers_unfit, named_twice, apart, explain_order, pages_order, refute_order}
+use Rattle.ttx_arguments.specs.Orders.{Asks, OrderView, certify_order, find_order, monitor_order, plan_order, send_order, splice_order, wait_order, no_time, two_clocks, no_seconds, two_deadlines, within_and_more, numbers_unfit, named_twice, apart, explain_order, pages_order, refute_order, extract_order}
 use Rattle.ttx_arguments.specs.Orders.{air_order, compose_order}
 use Rattle.ttx_arguments.specs.Seconds.{fields_of}
 use Rattle.ttx_arguments.specs.Timings.{StartView, start_now, start_utc, start_text, ClockView, clock_ahead, clock_in}
@@ -166,6 +167,12 @@ MonitorWords =
     × Asks (ttx_app names) (monitor_texts ++ codes "--every=50" ∷ codes "--rows" ∷ []) (Err (apart (conflicts.apart argument.Rows argument.Every)))
     × Asks (ttx_app names) (codes "monitor" ∷ codes "-" ∷ codes "s" ∷ codes "k" ∷ codes "-" ∷ []) (Err named_twice)
     × (fault_of (ttx_app names) (monitor_texts ++ codes "--start=65536" ∷ []) ≡ ValueValidation ∷ [])
+
+abbrev pub ExtractWords : Type 0
+ExtractWords =
+    (names : Names) → Asks (ttx_app names) (codes "extract" ∷ codes "c" ∷ codes "o" ∷ codes "--lines=12" ∷ []) (Ok (extract_order (codes "c") (codes "o") 12 false))
+    × Asks (ttx_app names) (codes "extract" ∷ codes "c" ∷ codes "o" ∷ codes "--partial" ∷ codes "--lines=12" ∷ [])
+    (Ok (extract_order (codes "c") (codes "o") 12 true))
 
 abbrev pub ExplainWords : Type 0
 ExplainWords =

@@ -76,7 +76,7 @@ pub data OrderView : Type 0 where
   report_order : (cycle service certificate out : Text) → (date : Option Text) → OrderView
   pages_order : (cycle : Text) → (json : Bool) → OrderView
   book_order : (cycle out : Text) → OrderView
-  extract_order : (cycle out : Text) → (lines : ℕ) → OrderView
+  extract_order : (cycle out : Text) → (lines : ℕ) → (partial : Bool) → OrderView
   check_order : (service : Text) → OrderView
   compose_order : (author out : Text) → OrderView
   decompose_order : (service out : Text) → OrderView
@@ -103,7 +103,7 @@ order_view (Monitor o) = monitor_order o.cycle.now o.service.now o.certificate.n
 order_view (Report o) = report_order o.cycle.now o.service.now o.certificate.now o.out.now (option_map (λ s. s.now) o.date)
 order_view (Pages cycle json) = pages_order cycle.now json
 order_view (Book cycle out) = book_order cycle.now out.now
-order_view (Extract cycle out lines) = extract_order cycle.now out.now lines
+order_view (Extract cycle out lines partial) = extract_order cycle.now out.now lines partial
 order_view (Check service) = check_order service.now
 order_view (Compose author out) = compose_order author.now out.now
 order_view (Decompose service out) = decompose_order service.now out.now
@@ -291,7 +291,8 @@ abbrev pub book_at : List Row → OrderView
 book_at rows = book_order (text_at argument.Cycle rows) (text_at argument.Book rows)
 
 abbrev pub extract_at : List Row → OrderView
-extract_at rows = extract_order (text_at argument.Cycle rows) (text_at argument.Extracted rows) (lines_at rows)
+extract_at rows =
+    extract_order (text_at argument.Cycle rows) (text_at argument.Extracted rows) (lines_at rows) (is_set argument.Partial rows)
 
 abbrev pub check_at : List Row → OrderView
 check_at rows = check_order (text_at argument.Service rows)

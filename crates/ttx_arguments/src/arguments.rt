@@ -85,6 +85,7 @@ pub enum Argument {
     MonitorAll,
     CertifyAll,
     Rows,
+    Partial,
 }
 
 impl Argument {
@@ -146,6 +147,7 @@ impl Argument {
             Argument::Json => "json",
             Argument::MonitorAll | Argument::CertifyAll => "all",
             Argument::Rows => "rows",
+            Argument::Partial => "partial",
         }
     }
 
@@ -205,7 +207,8 @@ impl Argument {
             | Argument::Json
             | Argument::MonitorAll
             | Argument::CertifyAll
-            | Argument::Rows => "",
+            | Argument::Rows
+            | Argument::Partial => "",
         }
     }
 
@@ -274,6 +277,7 @@ impl Argument {
             Argument::MonitorAll => help::MONITOR_ALL_OPTION,
             Argument::CertifyAll => help::CERTIFY_ALL_OPTION,
             Argument::Rows => help::ROWS_OPTION,
+            Argument::Partial => help::PARTIAL_OPTION,
         }
     }
 
@@ -317,7 +321,8 @@ impl Argument {
             | Argument::Json
             | Argument::MonitorAll
             | Argument::CertifyAll
-            | Argument::Rows => Takes::Nothing,
+            | Argument::Rows
+            | Argument::Partial => Takes::Nothing,
             _ => Takes::Operand,
         }
     }

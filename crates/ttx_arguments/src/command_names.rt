@@ -207,7 +207,7 @@ impl CommandName {
             ],
             CommandName::Pages => &[Argument::Cycle, Argument::Json],
             CommandName::Book => &[Argument::Cycle, Argument::Book],
-            CommandName::Extract => &[Argument::Cycle, Argument::Extracted, Argument::NeededLines],
+            CommandName::Extract => &[Argument::Cycle, Argument::Extracted, Argument::NeededLines, Argument::Partial],
             CommandName::Check => &[Argument::Service],
             CommandName::Version => &[],
             CommandName::Air => &[

@@ -301,6 +301,7 @@ pub(crate) fn extract_of<'a>(values: &ArgMatches<'a>) -> Order<'a>
         cycle: text_of(values, Argument::Cycle),
         out: text_of(values, Argument::Extracted),
         lines: lines_of(values),
+        partial: is_set(values, Argument::Partial),
     }
 }
 

@@ -595,6 +595,13 @@ the number of its headers, rounded down to 1, 2, 4 or 8, serial is C11, and the
 packet 8/30 is the first one. What is not sent is blank. Before anything is
 written, the text is read back: it must give exactly this service. The cycle
 does not say how many lines a field has, so give L.
+With --partial, a page that no service can say (refused: conflict or reason) is
+left out with all its packets, one page after the other, and the rest is
+extracted. Each has a line with its fault, and the last line counts packets of
+other kinds, as X/26, which no service says:
+  left out PAGE: conflict PAGE ITEM SLOT SLOT
+  left out PAGE: reason NUMBER NAME PAGE [SLOT]
+  other packets N
 
 Statuses:
   0  done
@@ -868,6 +875,8 @@ Statuses:
 pub(crate) const REPORTED_OPERAND: &str = "HTML file to write; created or emptied";
 
 pub(crate) const DATE_OPTION: &str = "Date of the report, as in 2026-11-25";
+
+pub(crate) const PARTIAL_OPTION: &str = "Leave out pages that no service can say, and list them";
 
 pub(crate) const ROWS_OPTION: &str = "Judge by whole rows, some of which may be lost";
 

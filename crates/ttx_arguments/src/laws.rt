@@ -1,6 +1,6 @@
 //! What some words ask for, computed from the definitions: examples that hold the grammar and the orders to what a user types.
 
-ghost use Rattle.ttx_arguments.specs.Examples.{VersionWords, CertifyWords, SendWords, PlanWords, SecondsTexts, FindWords, RepeatWords, SpliceWords, WaitWords, MonitorWords, ExplainWords, AirWords, ComposeWords, TwiceWords, RefuteWords};
+ghost use Rattle.ttx_arguments.specs.Examples.{VersionWords, CertifyWords, SendWords, PlanWords, SecondsTexts, FindWords, RepeatWords, SpliceWords, WaitWords, MonitorWords, ExplainWords, AirWords, ComposeWords, TwiceWords, RefuteWords, ExtractWords};
 
 /// `--version` and `-V` ask for the version, also before other words.
 pub fn version_words()
@@ -58,6 +58,11 @@ pub fn monitor_words()
 /// `refute` takes a file for the counter-run, and `--json`.
 pub fn refute_words()
     ensures { RefuteWords }
+{}
+
+/// `extract` needs the lines of a field, and takes `--partial`.
+pub fn extract_words()
+    ensures { ExtractWords }
 {}
 
 /// `explain` takes a reason, and `pages` an option without a value.

@@ -288,6 +288,8 @@ pub enum Order<'a> {
         cycle: &'a str,
         out: &'a str,
         lines: Lines,
+        /// Whether pages that no text can say are left out.
+        partial: bool,
     },
     /// Tell what is wrong, or likely wrong, in the text of a service.
     Check {

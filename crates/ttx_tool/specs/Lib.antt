@@ -12,6 +12,7 @@ pub mod Plan
 pub mod Promised
 pub mod Preview
 pub mod Extract
+pub mod ExtractPartial
 pub mod Find
 pub mod FindDeadline
 pub mod Refute

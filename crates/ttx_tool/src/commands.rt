@@ -13,6 +13,7 @@ pub mod check;
 pub mod diagnosis;
 pub mod explain;
 pub mod extract;
+pub mod extract_partial;
 pub mod find;
 pub mod find_deadline;
 pub mod inspect;

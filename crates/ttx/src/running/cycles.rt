@@ -67,11 +67,17 @@ fn extract_from(
     rt: &HostRuntime,
     reader: &mut PacketFile,
     lines: u8,
+    partial: bool,
     out: File,
 ) -> Result<u8, ToolFault> {
     let mut file = Counted::new(out);
     let mut writer = Counted::new(io::writer(rt));
-    match commands::extract::run(rt.alloc(), reader, lines, &mut file, &mut writer) {
+    let extracted = if partial {
+        commands::extract_partial::run(rt.alloc(), reader, lines, &mut file, &mut writer)
+    } else {
+        commands::extract::run(rt.alloc(), reader, lines, &mut file, &mut writer)
+    };
+    match extracted {
         Ok(status) => Ok(status),
         Err(ExtractionFault::Tool(fault)) => Err(fault),
         Err(ExtractionFault::Refused(fault)) => {
@@ -81,8 +87,9 @@ fn extract_from(
     }
 }
 
-/// Opens the cycle, makes the service's file anew, and writes the service that the cycle sends to it.
-pub fn extract(rt: &HostRuntime, cycle: &str, out: &str, lines: u8) -> Outcome {
+/// Opens the cycle, makes the service's file anew, and writes the service that the cycle sends to it, without the pages that no text can say
+/// if `partial` is set.
+pub fn extract(rt: &HostRuntime, cycle: &str, out: &str, lines: u8, partial: bool) -> Outcome {
     let cycle = open_input(rt, cycle)?;
     let Some(file) = create_out(rt, &[&cycle], out)? else {
         return Ok(report(rt, &ToolFault::Same));
@@ -91,6 +98,6 @@ pub fn extract(rt: &HostRuntime, cycle: &str, out: &str, lines: u8) -> Outcome {
         Ok(reader) => reader,
         Err(fault) => return Ok(report(rt, &fault)),
     };
-    let status = status_of(rt, extract_from(rt, &mut reader, lines, file));
+    let status = status_of(rt, extract_from(rt, &mut reader, lines, partial, file));
     Ok(diagnosed(rt, reader.get_ref().kept(), status))
 }

@@ -13,8 +13,8 @@ use std::io::{Read, Write};
 use ttx_cycle::{Counted, Cycle};
 use ttx_files::{Filed, FilesFault, read_packets, write_both};
 
-// The line that says how many pages there are.
-fn extracted_line(alloc: Global, count: usize) -> Result<String, AllocError>
+/// The line that says how many pages there are.
+pub(super) fn extracted_line(alloc: Global, count: usize) -> Result<String, AllocError>
     ensures { IfOk result (λ line. string_bytes line ≡ extracted_line count) }
 {
     format!(in alloc; "extracted {count} pages\n")
