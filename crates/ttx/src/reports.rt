@@ -2,10 +2,14 @@
 
 use ttx_cycle::Counted;
 use ttx_files::FilesFault;
+use ttx_kinds::Kind;
 use ttx_tool::{AirRefusal, ToolFault, commands};
 
 // The status of a fault, also where standard error takes no line.
 const FAULT: u8 = 3;
+
+// The status of a refusal.
+const REFUSED: u8 = 2;
 
 /// Says that a file can't be opened, and answers the status.
 pub fn file_fault(rt: &HostRuntime) -> u8 {
@@ -61,5 +65,17 @@ pub fn diagnosed(rt: &HostRuntime, bytes: &[u8], status: u8) -> u8 {
     status_of(
         rt,
         commands::diagnosis::run(rt.alloc(), bytes, status, &mut errors),
+    )
+}
+
+/// The status of a command on a file of these first bytes; if it was refused and they are of another kind than is wanted, says so.
+pub fn named(rt: &HostRuntime, wanted: Kind, bytes: &[u8], status: u8) -> u8 {
+    if status != REFUSED {
+        return status;
+    }
+    let mut errors = Counted::new(rt.stderr());
+    status_of(
+        rt,
+        commands::kinds::run(rt.alloc(), wanted, bytes, status, &mut errors),
     )
 }

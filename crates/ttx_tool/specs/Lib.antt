@@ -1,5 +1,6 @@
 pub mod Devices
 pub mod Diagnosis
+pub mod OtherKinds
 pub mod Answers
 pub mod Certify
 pub mod Texts

@@ -17,6 +17,7 @@ pub mod extract_partial;
 pub mod find;
 pub mod find_deadline;
 pub mod inspect;
+pub mod kinds;
 pub mod monitor;
 pub mod monitor_reports;
 pub mod pages;

@@ -283,15 +283,24 @@ fn wait_as_json(
     )
 }
 
+fn wait_readers(
+    rt: &HostRuntime,
+    readers: &mut SentServiceReaders,
+    order: &WaitOrder<'_>,
+) -> Result<u8, ToolFault> {
+    if order.json {
+        wait_as_json(rt, readers, order)
+    } else if order.numbers {
+        wait_in_numbers(rt, readers, order)
+    } else {
+        wait_in(rt, readers, order)
+    }
+}
+
 fn wait_for(rt: &HostRuntime, inputs: SentService, order: &WaitOrder<'_>) -> Result<u8, ToolFault> {
     let mut readers = inputs.readers(rt)?;
-    if order.json {
-        wait_as_json(rt, &mut readers, order)
-    } else if order.numbers {
-        wait_in_numbers(rt, &mut readers, order)
-    } else {
-        wait_in(rt, &mut readers, order)
-    }
+    let status = status_of(rt, wait_readers(rt, &mut readers, order));
+    Ok(readers.named(rt, status))
 }
 
 /// Opens the cycle and the service, and tells how long viewers of each page wait.

@@ -8,6 +8,7 @@ use std::io;
 use std::io::Write;
 use ttx_arguments::{RefuteOrder, ReplayOrder};
 use ttx_cycle::Counted;
+use ttx_kinds::Kind;
 use ttx_tool::commands::refute::Asked;
 use ttx_tool::{ToolFault, commands};
 
@@ -38,7 +39,8 @@ fn refute_claim<O: Write + Drop>(
 ) -> Result<u8, ToolFault> {
     let mut file = Counted::new(out);
     let mut readers = claim.readers(rt)?;
-    refute_readers(rt, &mut readers, asked, &mut file)
+    let status = status_of(rt, refute_readers(rt, &mut readers, asked, &mut file));
+    Ok(readers.named(rt, Kind::Certificate, status))
 }
 
 /// Opens the cycle, the service and the certificate, makes the counter-run's file anew where it is named, and refutes.
@@ -72,7 +74,8 @@ fn replay_readers(rt: &HostRuntime, readers: &mut ClaimReaders) -> Result<u8, To
 
 fn replay_claim(rt: &HostRuntime, claim: Claim) -> Result<u8, ToolFault> {
     let mut readers = claim.readers(rt)?;
-    replay_readers(rt, &mut readers)
+    let status = status_of(rt, replay_readers(rt, &mut readers));
+    Ok(readers.named(rt, Kind::CounterRun, status))
 }
 
 /// Opens the cycle, the service and the counter-run, and shows what is shown after it.

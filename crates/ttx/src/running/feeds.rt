@@ -7,6 +7,7 @@ use crate::reports::{not_built, status_of};
 use std::io;
 use ttx_arguments::MonitorOrder;
 use ttx_cycle::Counted;
+use ttx_kinds::Kind;
 use ttx_monitor::Asked;
 use ttx_tool::{ToolFault, commands};
 
@@ -19,7 +20,7 @@ fn monitor_feed(
     let mut readers = claim.readers(rt)?;
     let mut feed = buffered(rt, feed)?;
     let mut writer = Counted::new(io::writer(rt));
-    commands::monitor::run(
+    let answer = commands::monitor::run(
         rt.alloc(),
         &mut readers.cycle,
         &mut readers.service,
@@ -27,14 +28,16 @@ fn monitor_feed(
         start,
         &mut feed,
         &mut writer,
-    )
+    );
+    let status = status_of(rt, answer);
+    Ok(readers.named(rt, Kind::Certificate, status))
 }
 
 fn report_feed(rt: &HostRuntime, claim: Claim, feed: Input, asked: Asked) -> Result<u8, ToolFault> {
     let mut readers = claim.readers(rt)?;
     let mut feed = buffered(rt, feed)?;
     let mut writer = Counted::new(io::writer(rt));
-    commands::monitor_reports::run(
+    let answer = commands::monitor_reports::run(
         rt.alloc(),
         &mut readers.cycle,
         &mut readers.service,
@@ -42,7 +45,9 @@ fn report_feed(rt: &HostRuntime, claim: Claim, feed: Input, asked: Asked) -> Res
         asked,
         &mut feed,
         &mut writer,
-    )
+    );
+    let status = status_of(rt, answer);
+    Ok(readers.named(rt, Kind::Certificate, status))
 }
 
 /// Opens the cycle, the service, the certificate and the feed, and judges the feed, or reports it while it comes.

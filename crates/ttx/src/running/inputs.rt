@@ -1,10 +1,12 @@
 //! The opened inputs of a command.
 
 use crate::devices::{Input, open_input};
+use crate::reports::named;
 use std::io;
 use std::io::BufReader;
 use ttx_cycle::Counted;
 use ttx_files::FilesFault;
+use ttx_kinds::Kind;
 use ttx_recognition::Recorded;
 use ttx_tool::ToolFault;
 
@@ -17,18 +19,26 @@ pub fn buffered(rt: &HostRuntime, input: Input) -> Result<Counted<BufReader<Inpu
 }
 
 /// A buffered reader of an input, which keeps the first bytes that are read through it.
-pub fn recorded(
-    rt: &HostRuntime,
-    input: Input,
-) -> Result<Counted<Recorded<BufReader<Input>>>, ToolFault> {
+pub type RecordedInput = Counted<Recorded<BufReader<Input>>>;
+
+/// Such a reader of an input.
+pub fn recorded(rt: &HostRuntime, input: Input) -> Result<RecordedInput, ToolFault> {
     Ok(Counted::new(Recorded::new(buffered(rt, input)?.into_inner())))
 }
 
 /// The readers of a cycle and of the service that it is to send.
 #[derive(Drop)]
 pub struct SentServiceReaders {
-    pub cycle: Counted<BufReader<Input>>,
-    pub service: Counted<BufReader<Input>>,
+    pub cycle: RecordedInput,
+    pub service: RecordedInput,
+}
+
+impl SentServiceReaders {
+    /// The status of a command on these files; says which of them are of another kind than their places want.
+    pub fn named(&self, rt: &HostRuntime, status: u8) -> u8 {
+        let status = named(rt, Kind::Packets, self.cycle.get_ref().kept(), status);
+        named(rt, Kind::Service, self.service.get_ref().kept(), status)
+    }
 }
 
 /// A cycle, and the service that it is to send.
@@ -48,8 +58,8 @@ impl SentService {
 
     /// Buffered readers of both.
     pub fn readers(self, rt: &HostRuntime) -> Result<SentServiceReaders, ToolFault> {
-        let cycle = buffered(rt, self.cycle)?;
-        let service = buffered(rt, self.service)?;
+        let cycle = recorded(rt, self.cycle)?;
+        let service = recorded(rt, self.service)?;
         Ok(SentServiceReaders { cycle, service })
     }
 }
@@ -57,9 +67,19 @@ impl SentService {
 /// The readers of a claim.
 #[derive(Drop)]
 pub struct ClaimReaders {
-    pub cycle: Counted<BufReader<Input>>,
-    pub service: Counted<BufReader<Input>>,
-    pub text: Counted<BufReader<Input>>,
+    pub cycle: RecordedInput,
+    pub service: RecordedInput,
+    pub text: RecordedInput,
+}
+
+impl ClaimReaders {
+    /// The status of a command on these files, of which the last is to be a certificate or a counter-run; says which of them are of another
+    /// kind than their places want.
+    pub fn named(&self, rt: &HostRuntime, text: Kind, status: u8) -> u8 {
+        let status = named(rt, Kind::Packets, self.cycle.get_ref().kept(), status);
+        let status = named(rt, Kind::Service, self.service.get_ref().kept(), status);
+        named(rt, text, self.text.get_ref().kept(), status)
+    }
 }
 
 /// A cycle, the service that it is to send, and a third text on both: a certificate, or a counter-run.
@@ -85,9 +105,9 @@ impl Claim {
 
     /// Buffered readers of the three.
     pub fn readers(self, rt: &HostRuntime) -> Result<ClaimReaders, ToolFault> {
-        let cycle = buffered(rt, self.cycle)?;
-        let service = buffered(rt, self.service)?;
-        let text = buffered(rt, self.text)?;
+        let cycle = recorded(rt, self.cycle)?;
+        let service = recorded(rt, self.service)?;
+        let text = recorded(rt, self.text)?;
         Ok(ClaimReaders {
             cycle,
             service,

@@ -3,11 +3,12 @@
 use super::Outcome;
 use super::inputs::{buffered, recorded};
 use crate::devices::{Input, open_input};
-use crate::reports::{diagnosed, report, status_of};
+use crate::reports::{diagnosed, named, report, status_of};
 use std::io;
 use std::io::BufReader;
 use ttx_arguments::{Look, Tuning};
 use ttx_cycle::Counted;
+use ttx_kinds::Kind;
 use ttx_page::Selection;
 use ttx_recognition::Recorded;
 use ttx_tool::{ToolFault, commands};
@@ -50,9 +51,11 @@ fn preview_input(
     selection: &Selection,
     look: &Look<'_>,
 ) -> Result<u8, ToolFault> {
-    let mut reader = buffered(rt, input)?;
+    let mut reader = recorded(rt, input)?;
     let mut writer = Counted::new(io::writer(rt));
-    commands::preview::run(rt.alloc(), &mut reader, selection, look, &mut writer)
+    let answer = commands::preview::run(rt.alloc(), &mut reader, selection, look, &mut writer);
+    let status = status_of(rt, answer);
+    Ok(named(rt, Kind::Service, reader.get_ref().kept(), status))
 }
 
 /// Opens the service, and shows a page of it before it is sent.

@@ -1,22 +1,25 @@
 //! The commands that take a service alone: `check`, `plan`.
 
 use super::Outcome;
-use super::inputs::buffered;
+use super::inputs::{buffered, recorded};
 use crate::devices::{Input, create_out, open_input};
-use crate::reports::{report, status_of};
+use crate::reports::{named, report, status_of};
 use std::fs::File;
 use std::io;
 use std::io::BufReader;
 use ttx_arguments::PlanOrder;
 use ttx_cycle::Counted;
+use ttx_kinds::Kind;
 use ttx_plan::Receivers;
 use ttx_promise::Viewers;
 use ttx_tool::{ToolFault, commands};
 
 fn check_input(rt: &HostRuntime, input: Input) -> Result<u8, ToolFault> {
-    let mut reader = buffered(rt, input)?;
+    let mut reader = recorded(rt, input)?;
     let mut writer = Counted::new(io::writer(rt));
-    commands::check::run(rt.alloc(), &mut reader, &mut writer)
+    let answer = commands::check::run(rt.alloc(), &mut reader, &mut writer);
+    let status = status_of(rt, answer);
+    Ok(named(rt, Kind::Service, reader.get_ref().kept(), status))
 }
 
 /// Opens the service, and tells what is wrong, or likely wrong, in its text.

@@ -1,4 +1,4 @@
-//! What is said of bytes that are no packets of 42 bytes, behind the lines of `pages`, `show`, `book` and `extract`.
+//! What is said of a file that is no packets of 42 bytes, behind the lines of `pages`, `show`, `book` and `extract`.
 
 ghost use Rattle.std.specs.Prelude.{◌≡◌, ◌∷◌, [], ◌++◌, IfOk, string_bytes};
 ghost use Rattle.ttx_cycle.specs.Counters.{inner_of, faults_of};
@@ -8,12 +8,14 @@ ghost use Rattle.ttx_recognition.specs.Lines.{unlike_line};
 ghost use Rattle.ttx_tool.specs.Devices.{is_tool_write, Fails};
 ghost use Rattle.ttx_tool.specs.Diagnosis.{Diagnoses};
 
+use super::kinds;
 use super::reports::write_text;
 use crate::faults::ToolFault;
 use std::alloc::{AllocError, Global};
 use std::io::Write;
 use ttx_cycle::Counted;
 use ttx_files::FilesFault;
+use ttx_kinds::{Kind, other_kind};
 use ttx_recognition::{Unlike, push_unlike, recognise};
 
 // The line.
@@ -25,8 +27,8 @@ fn unlike_line(alloc: Global, unlike: Unlike) -> Result<String, AllocError>
     Ok(text)
 }
 
-/// Writes what the first bytes of a packet file are if they are no packets of 42 bytes, and answers the status 1; otherwise nothing, and the
-/// status that is given.
+/// Writes what a file is that begins with these bytes if it is recognised as no packets of 42 bytes: another kind of file, or packets of
+/// another form. Then the status is 1; otherwise it is the one that is given, and nothing is written.
 ///
 /// At `Write` exactly the first `written` bytes of the line went out; at each other fault the writer is as it was.
 pub fn run<W: Write>(
@@ -39,7 +41,11 @@ pub fn run<W: Write>(
     ensures faults { Fails (output (faults_of writer.old) (faults_of writer.new) ∷ []) result }
     ensures untouched { IsUntouched is_tool_write result writer.old writer.new }
 {
-    let Some(unlike) = recognise(bytes) else {
+    let found = recognise(bytes);
+    if other_kind(Kind::Packets, bytes).is_some() {
+        return kinds::run(alloc, Kind::Packets, bytes, 1, writer);
+    }
+    let Some(unlike) = found else {
         return Ok(status);
     };
     let Ok(line) = unlike_line(alloc, unlike) else {
