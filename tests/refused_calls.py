@@ -44,6 +44,8 @@ COMMANDS = [
     ("refute small.t42 small.toml early.cert --save out", False),
     ("replay small.t42 small.toml early.counter", False),
     ("replay base.t42 base.toml base-26.counter", True),
+    ("replay base.t42 base.toml base-26.counter --as text", True),
+    ("replay base.t42 base.toml base-26.counter --as html", True),
     ("replay turned.t42 base.toml base-26.counter", True),
     ("preview small.toml 100", False),
     ("receive small.t42 100 --slots 12", False),

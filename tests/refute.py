@@ -6,7 +6,8 @@ usage: refute.py PROGRAM [CASES]
 The answer of find, a deadline or a reason, must be that of the plain certifier of tests/plain_certifier.py. With the deadline of find
 there is no counter-run, with one field less there is one. If find finds nothing, each slot is clean and each page is sent unchanged,
 there is one. Each counter-run is replayed: its wrong bits keep the error rule, what is then shown is not the page, and replay says the
-same, row by row. Pages have only letters and spaces, so what is shown is what is held.
+same, row by row. Its sentences and pictures are those of a plain model (pictured.py). Pages have only letters and spaces, so what is
+shown is what is held.
 """
 import random
 import re
@@ -17,6 +18,7 @@ from pathlib import Path
 
 sys.dont_write_bytecode = True
 from make_data import EMPTY, WORDS, header, links, row, time_filling  # noqa: E402
+from pictured import html_fails, text_fails  # noqa: E402
 from plain_certifier import first_reason, is_clean, least_deadline, odd  # noqa: E402
 from plain_receiver import SPACES, Receiver, packet_in, shown  # noqa: E402
 
@@ -120,7 +122,14 @@ def replay_fails(program, names, line, counter, cycle, page):
     if (status, errors, lines[:1]) != (0, "", [line]):
         return f"replay says {status} {text[:80]!r} {errors!r}"
     wanted = unlike(*both_shown(counter, received, hits, page))
-    return None if [replayed(told) for told in lines[1:]] == wanted else f"replay says {text[:200]!r}"
+    if [replayed(told) for told in lines[1:]] != wanted:
+        return f"replay says {text[:200]!r}"
+    for form, fails in (("text", text_fails), ("html", html_fails)):
+        done = subprocess.run([program, "replay", *names, "--as", form], capture_output=True, text=True, timeout=60)
+        why = fails(done.stdout, counter, cycle, page) if (done.returncode, done.stderr) == (0, "") else done.stderr
+        if why is not None:
+            return f"replay --as {form}: {why}"
+    return None
 
 
 def is_unchanged(cycle, pages):

@@ -11,7 +11,7 @@ use Rattle.ttx_arguments.specs.Grammar.{ttx_app}
 use Rattle.ttx_arguments.specs.Orders.{Asks, order_at}
 use Rattle.ttx_arguments.specs.Moments.{moment_of}
 use Rattle.ttx_arguments.specs.Seconds.{fields_of, hundredths_of}
-use Rattle.ttx_arguments.specs.Examples.{VersionWords, CertifyWords, SendWords, PlanWords, SecondsTexts, FindWords, RepeatWords, SpliceWords, WaitWords, MonitorWords, ExplainWords, AirWords, ComposeWords, TwiceWords}
+use Rattle.ttx_arguments.specs.Examples.{VersionWords, CertifyWords, SendWords, PlanWords, SecondsTexts, FindWords, RepeatWords, SpliceWords, WaitWords, MonitorWords, ExplainWords, ReplayWords, AirWords, ComposeWords, TwiceWords}
 
 pub version_words : VersionWords
 unfolding ttx_app walked bundle_met chars encode_utf8 flags_pass walk_passes flags_fault walk_fault defaults_fault
@@ -85,6 +85,10 @@ monitor_words names = (
 pub explain_words : ExplainWords
 unfolding ttx_app walked bundle_met chars encode_utf8 flags_pass walk_passes flags_fault walk_fault defaults_fault Asks order_at command_named
 explain_words names = (inl (refl, refl), inl (refl, refl), inl (refl, refl))
+
+pub replay_words : ReplayWords
+unfolding ttx_app walked bundle_met chars encode_utf8 flags_pass walk_passes flags_fault walk_fault defaults_fault Asks order_at command_named
+replay_words names = inl (refl, refl)
 
 pub air_words : AirWords
 unfolding ttx_app walked bundle_met chars encode_utf8 flags_pass walk_passes flags_fault walk_fault defaults_fault Asks order_at command_named fields_of hundredths_of decimal_in two_decimals moment_of

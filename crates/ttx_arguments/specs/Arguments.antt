@@ -36,6 +36,7 @@ id_of argument.NewCertificate = codes "new_certificate"
 id_of argument.Class = codes "class"
 id_of argument.Kind = codes "kind"
 id_of argument.Form = codes "as"
+id_of argument.ReplayForm = codes "as"
 id_of argument.Repeat = codes "repeat"
 id_of argument.Lines = codes "lines"
 id_of argument.NeededLines = codes "lines"
@@ -85,6 +86,7 @@ abbrev pub takes_of : Argument → Takes
 takes_of argument.Class = takes.Class
 takes_of argument.Kind = takes.Kind
 takes_of argument.Form = takes.Form
+takes_of argument.ReplayForm = takes.ReplayForm
 takes_of argument.Repeat = takes.Number 1 8
 takes_of argument.Lines = takes.Number 1 32
 takes_of argument.NeededLines = takes.Number 1 32
@@ -182,7 +184,7 @@ arguments_of command.Certify =
     argument.Cycle ∷ argument.Service ∷ argument.Certificate ∷ argument.Late ∷ argument.Numbers ∷ argument.Twice ∷ argument.Within
     ∷ argument.CertifyAll ∷ []
 arguments_of command.Refute = argument.Cycle ∷ argument.Service ∷ argument.Certificate ∷ argument.Save ∷ []
-arguments_of command.Replay = argument.Cycle ∷ argument.Service ∷ argument.Counter ∷ []
+arguments_of command.Replay = argument.Cycle ∷ argument.Service ∷ argument.Counter ∷ argument.ReplayForm ∷ []
 arguments_of command.Receive = argument.Cycle ∷ argument.Page ∷ argument.Lines ∷ argument.Start ∷ argument.Slots ∷ argument.Kind ∷ []
 arguments_of command.Show =
     argument.Cycle ∷ argument.Page ∷ argument.Lines ∷ argument.Start ∷ argument.Slots ∷ argument.Kind ∷ argument.Form ∷ argument.Reveal ∷ []

@@ -9,6 +9,7 @@
 --   SpliceWords, WaitWords   a number that need not be there; options without a value
 --   MonitorWords             a slot that need not be there, and two inputs that are standard input
 --   ExplainWords             an operand that names no file; an option of one command, and no other
+--   ReplayWords              names of one command, and the one that is meant if none is given
 --   AirWords, ComposeWords   when nothing is said of the time, the end and the receivers; an input and an output that are standard streams
 --   TwiceWords               standard input for two inputs, and for a cycle that is read twice
 use Rattle.std.specs.Prelude.{◌≡◌, ℕ, pos, negsuc, Bool, List, [], ◌∷◌, ◌++◌, Option, Some, None, Ok, Err, codes, true, false}
@@ -17,12 +18,13 @@ use Rattle.clap.specs.declared.error.kind.ErrorKind.TheVariants.{DisplayVersion,
 use Rattle.ttx_page.specs.declared.class.Class.TheVariants.{Any}
 use Rattle.ttx_arguments.specs.Grammar.{ttx_app}
 use Rattle.ttx_arguments.specs.Orders.{Asks, OrderView, certify_order, find_order, monitor_order, plan_order, send_order, splice_order, wait_order, no_time, two_clocks, no_seconds, two_deadlines, within_and_more, numbers_unfit, named_twice, apart, explain_order, pages_order}
-use Rattle.ttx_arguments.specs.Orders.{air_order, compose_order}
+use Rattle.ttx_arguments.specs.Orders.{air_order, compose_order, replay_order}
 use Rattle.ttx_arguments.specs.Seconds.{fields_of}
 use Rattle.ttx_arguments.specs.Timings.{StartView, start_now, start_utc, start_text, ClockView, clock_ahead, clock_in}
 use Rattle.ttx_arguments.specs.declared.arguments.Argument.TheVariants as argument
 use Rattle.ttx_arguments.specs.Conflicts as conflicts
 use Rattle.ttx_arguments.specs.declared.grammar.Names.{Names}
+use Rattle.ttx_arguments.specs.declared.orders.ReplayForm.TheVariants as shown
 
 abbrev pub VersionWords : Type 0
 VersionWords =
@@ -157,6 +159,12 @@ ExplainWords =
     (names : Names) → Asks (ttx_app names) (codes "explain" ∷ codes "late" ∷ []) (Ok (explain_order (codes "late")))
     × Asks (ttx_app names) (codes "pages" ∷ codes "c" ∷ codes "--json" ∷ []) (Ok (pages_order (codes "c") true))
     × Asks (ttx_app names) (codes "pages" ∷ codes "c" ∷ []) (Ok (pages_order (codes "c") false))
+
+abbrev replay_texts : List Text
+replay_texts = codes "replay" ∷ codes "c" ∷ codes "s" ∷ codes "r" ∷ []
+
+abbrev pub ReplayWords : Type 0
+ReplayWords = (names : Names) → Asks (ttx_app names) replay_texts (Ok (replay_order (codes "c") (codes "s") (codes "r") shown.Words))
 
 abbrev air_texts : List Text
 air_texts = codes "air" ∷ codes "s" ∷ codes "--within" ∷ codes "20" ∷ []

@@ -1,7 +1,7 @@
 -- The command line as `clap` reads it, made from the table of commands: what is taken, and the faults of what isn't.
 --
 --   AreNames, HasNames       names as `clap` holds them, wherever they lie in memory
---   kind_names, class_names, form_names      the names that `--kind`, `--class` and `--as` take
+--   kind_names, class_names, form_names, replay_names      the names that `--kind`, `--class` and `--as` take, also that of `replay`
 --   operand_rule, flag_rule  an operand, which has to be there, and an option without a value
 --   parser_taking, option_rule              what the value of an option has to be, and an option with a value; half hours are from -24 to 47
 --   rule_of_argument, with_arguments        an argument, and a command with arguments
@@ -36,8 +36,12 @@ class_names = codes "any" ∷ codes "clearing" ∷ []
 abbrev pub form_names : List Text
 form_names = codes "text" ∷ codes "ansi" ∷ codes "svg" ∷ codes "html" ∷ []
 
+abbrev pub replay_names : List Text
+replay_names = codes "words" ∷ codes "text" ∷ codes "html" ∷ []
+
 abbrev pub HasNames : Names → Type 0
-HasNames names = AreNames names.kinds kind_names × AreNames names.classes class_names × AreNames names.forms form_names
+HasNames names =
+    AreNames names.kinds kind_names × AreNames names.classes class_names × AreNames names.forms form_names × AreNames names.replays replay_names
 
 abbrev pub operand_rule : Text → Rule
 operand_rule id = record (new_rule id) { required = true; value_names = 1 }
@@ -53,6 +57,7 @@ parser_taking names takes.HalfHours = Some (parser.Signed (negsuc 23) (pos 47))
 parser_taking names takes.Kind = Some (parser.Names names.kinds)
 parser_taking names takes.Class = Some (parser.Names names.classes)
 parser_taking names takes.Form = Some (parser.Names names.forms)
+parser_taking names takes.ReplayForm = Some (parser.Names names.replays)
 parser_taking names takes.Nothing = None
 
 abbrev pub option_rule : Text → Bool → Option ValueParser → Rule
@@ -67,6 +72,7 @@ rule_taking names id needed takes.HalfHours = option_rule id needed (Some (parse
 rule_taking names id needed takes.Kind = option_rule id needed (Some (parser.Names names.kinds))
 rule_taking names id needed takes.Class = option_rule id needed (Some (parser.Names names.classes))
 rule_taking names id needed takes.Form = option_rule id needed (Some (parser.Names names.forms))
+rule_taking names id needed takes.ReplayForm = option_rule id needed (Some (parser.Names names.replays))
 
 abbrev pub rule_of_argument : Names → Argument → Rule
 rule_of_argument names argument = rule_taking names (id_of argument) (is_needed argument) (takes_of argument)

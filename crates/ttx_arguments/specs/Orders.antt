@@ -43,6 +43,8 @@ use Rattle.ttx_arguments.specs.declared.orders.Order.TheVariants.{Inspect, Plan,
 use Rattle.ttx_arguments.specs.declared.orders.Order.TheVariants.{Send, Air, Monitor, Report, Pages, Book, Extract, Check, Compose, Decompose, Explain, Version}
 use Rattle.ttx_arguments.specs.declared.orders.ReceiverKind.{ReceiverKind}
 use Rattle.ttx_arguments.specs.declared.orders.ReceiverKind.TheVariants.{Eager, Careful, Cleared}
+use Rattle.ttx_arguments.specs.declared.orders.ReplayForm.{ReplayForm}
+use Rattle.ttx_arguments.specs.declared.orders.ReplayForm.TheVariants as shown
 use Rattle.ttx_arguments.specs.declared.orders.Sending.{Sending}
 use Rattle.ttx_arguments.specs.declared.orders.Tuning.{Tuning}
 use Rattle.ttx_arguments.specs.declared.orders.WordsFault.{WordsFault}
@@ -64,7 +66,7 @@ pub data OrderView : Type 0 where
   find_order : (cycle service out : Text) → (repeat : ℕ) → (class : Class) → (deadline : Option ℕ) → OrderView
   certify_order : (cycle service certificate : Text) → (late numbers twice : Bool) → (within : Option ℕ) → (all : Bool) → OrderView
   refute_order : (cycle service certificate : Text) → (save : Option Text) → OrderView
-  replay_order : (cycle service counter : Text) → OrderView
+  replay_order : (cycle service counter : Text) → (form : ReplayForm) → OrderView
   receive_order : (cycle : Text) → (tuning : Tuning) → OrderView
   show_order : (cycle : Text) → (tuning : Tuning) → (look : LookView) → OrderView
   preview_order : (service : Text) → (selection : Selection) → (look : LookView) → OrderView
@@ -89,7 +91,7 @@ order_view (Plan o) = plan_order o.service.now o.out.now o.class o.late o.spread
 order_view (Find o) = find_order o.cycle.now o.service.now o.out.now o.repeat o.class o.deadline
 order_view (Certify o) = certify_order o.cycle.now o.service.now o.certificate.now o.late o.numbers o.twice o.within o.all
 order_view (Refute o) = refute_order o.cycle.now o.service.now o.certificate.now (option_map (λ s. s.now) o.save)
-order_view (Replay o) = replay_order o.cycle.now o.service.now o.counter.now
+order_view (Replay o) = replay_order o.cycle.now o.service.now o.counter.now o.form
 order_view (Receive cycle tuning) = receive_order cycle.now tuning
 order_view (Show cycle tuning look) = show_order cycle.now tuning (look_view look)
 order_view (Preview service selection look) = preview_order service.now selection (look_view look)
@@ -151,6 +153,12 @@ form_named name =
     else if bytes_eq name (codes "svg") then form.Svg
     else if bytes_eq name (codes "html") then form.Html
     else form.Ansi
+
+abbrev pub replay_form_named : Text → ReplayForm
+replay_form_named name =
+    if bytes_eq name (codes "text") then shown.Text
+    else if bytes_eq name (codes "html") then shown.Html
+    else shown.Words
 
 -- why words that `clap` takes ask for nothing
 pub data Unfit : Type 0 where
@@ -250,7 +258,9 @@ refute_at rows =
     refute_order (text_at argument.Cycle rows) (text_at argument.Service rows) (text_at argument.Certificate rows) (given_at argument.Save rows)
 
 abbrev pub replay_at : List Row → OrderView
-replay_at rows = replay_order (text_at argument.Cycle rows) (text_at argument.Service rows) (text_at argument.Counter rows)
+replay_at rows =
+    replay_order (text_at argument.Cycle rows) (text_at argument.Service rows) (text_at argument.Counter rows)
+    (replay_form_named (text_at argument.ReplayForm rows))
 
 abbrev pub receive_at : List Row → Result OrderView Unfit
 receive_at rows = receive_by (selection_of (text_at argument.Page rows)) rows

@@ -182,7 +182,7 @@ impl CommandName {
                 Argument::Numbers, Argument::Twice, Argument::Within, Argument::CertifyAll,
             ],
             CommandName::Refute => &[Argument::Cycle, Argument::Service, Argument::Certificate, Argument::Save],
-            CommandName::Replay => &[Argument::Cycle, Argument::Service, Argument::Counter],
+            CommandName::Replay => &[Argument::Cycle, Argument::Service, Argument::Counter, Argument::ReplayForm],
             CommandName::Receive => &[Argument::Cycle, Argument::Page, Argument::Lines, Argument::Start, Argument::Slots, Argument::Kind],
             CommandName::Show => &[
                 Argument::Cycle, Argument::Page, Argument::Lines, Argument::Start,

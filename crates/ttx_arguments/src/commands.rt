@@ -21,7 +21,7 @@ use crate::seconds::fields_of;
 use crate::timings::{clock_of, start_of};
 use crate::values::{
     class_of, deadline_of, every_of, given, given_number, is_set, lines_of, look_of, repeat_of,
-    sending_of, text_of, tuning_of,
+    replay_form_of, sending_of, text_of, tuning_of,
 };
 use clap::ArgMatches;
 
@@ -215,6 +215,7 @@ pub(crate) fn replay_of<'a>(values: &ArgMatches<'a>) -> Order<'a>
         cycle: text_of(values, Argument::Cycle),
         service: text_of(values, Argument::Service),
         counter: text_of(values, Argument::Counter),
+        form: replay_form_of(values),
     })
 }
 

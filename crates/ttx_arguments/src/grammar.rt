@@ -17,12 +17,13 @@ use std::alloc::{AllocError, Global};
 // A command, where memory doesn't run out.
 type Building<'a> = Result<Command<'a>, AllocError>;
 
-/// The names that `--kind`, `--class` and `--as` take.
+/// The names that `--kind`, `--class` and `--as` take, also that of `replay`.
 #[derive(Clone, Copy)]
 pub struct Names<'a> {
     pub kinds: &'a [&'a str],
     pub classes: &'a [&'a str],
     pub forms: &'a [&'a str],
+    pub replays: &'a [&'a str],
 }
 
 // What the value of an option has to be.
@@ -35,6 +36,7 @@ fn parser_of<'a>(takes: Takes, names: Names<'a>) -> Option<ValueParser<'a>>
         Takes::Kind => Some(ValueParser::Names(names.kinds)),
         Takes::Class => Some(ValueParser::Names(names.classes)),
         Takes::Form => Some(ValueParser::Names(names.forms)),
+        Takes::ReplayForm => Some(ValueParser::Names(names.replays)),
         _ => None,
     }
 }
@@ -133,6 +135,13 @@ fn form_names<'a>() -> &'a [&'a str]
     &["text", "ansi", "svg", "html"]
 }
 
+// The names that `--as` of `replay` takes.
+fn replay_names<'a>() -> &'a [&'a str]
+    ensures { AreNames result rule.replay_names }
+{
+    &["words", "text", "html"]
+}
+
 /// The names that options take.
 pub(crate) fn option_names<'a>() -> Names<'a>
     ensures { HasNames result }
@@ -141,6 +150,7 @@ pub(crate) fn option_names<'a>() -> Names<'a>
         kinds: kind_names(),
         classes: class_names(),
         forms: form_names(),
+        replays: replay_names(),
     }
 }
 

@@ -253,6 +253,12 @@ ignoring columns 0 to 7 and 32 to 39 of row 0:
 and two lines for the links if they differ: shown links .. and page links ..
 Otherwise writes: not a counter-run
 
+FORM is how a counter-run is shown:
+  words  as above
+  text   what happened, in sentences, and then the page as authored beside what
+         the receiver shows, with a mark at each row that differs
+  html   the same, as an HTML page
+
 Statuses:
   0  a counter-run
   1  not a counter-run
@@ -722,6 +728,9 @@ pub(crate) const KIND_OPTION: &str = "Receiver: which of its choices it takes, s
 
 pub(crate) const FORM_OPTION: &str = "How the page is written, see below
 [default: ansi]";
+
+pub(crate) const REPLAY_FORM_OPTION: &str = "How a counter-run is shown, see below
+[default: words]";
 
 pub(crate) const REVEAL_OPTION: &str = "Show concealed characters";
 

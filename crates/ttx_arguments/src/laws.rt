@@ -1,6 +1,6 @@
 //! What some words ask for, computed from the definitions: examples that hold the grammar and the orders to what a user types.
 
-ghost use Rattle.ttx_arguments.specs.Examples.{VersionWords, CertifyWords, SendWords, PlanWords, SecondsTexts, FindWords, RepeatWords, SpliceWords, WaitWords, MonitorWords, ExplainWords, AirWords, ComposeWords, TwiceWords};
+ghost use Rattle.ttx_arguments.specs.Examples.{VersionWords, CertifyWords, SendWords, PlanWords, SecondsTexts, FindWords, RepeatWords, SpliceWords, WaitWords, MonitorWords, ExplainWords, ReplayWords, AirWords, ComposeWords, TwiceWords};
 
 /// `--version` and `-V` ask for the version, also before other words.
 pub fn version_words()
@@ -58,6 +58,11 @@ pub fn monitor_words()
 /// `explain` takes a reason, and `pages` an option without a value.
 pub fn explain_words()
     ensures { ExplainWords }
+{}
+
+/// `replay` writes words if nothing else is asked for.
+pub fn replay_words()
+    ensures { ReplayWords }
 {}
 
 /// `air` begins now, has no end and is late unless the words say otherwise; it takes the seconds within which pages are seen.

@@ -26,8 +26,8 @@ pub use laws::{
 pub use moments::Moment;
 pub use orders::{
     AirOrder, CertifyOrder, Clock, FindOrder, Look, MonitorOrder, Order, PlanOrder, ReceiverKind,
-    RefuteOrder, ReplayOrder, ReportOrder, SendOrder, Sending, SpliceOrder, Start, Timing, Tuning,
-    WaitOrder, WordsFault,
+    RefuteOrder, ReplayForm, ReplayOrder, ReportOrder, SendOrder, Sending, SpliceOrder, Start,
+    Timing, Tuning, WaitOrder, WordsFault,
 };
 pub use parsing::words;
 pub use ranges::{Fields, Lines, Offset, Repeat};

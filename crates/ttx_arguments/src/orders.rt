@@ -135,12 +135,24 @@ pub struct RefuteOrder<'a> {
     pub save: Option<&'a str>,
 }
 
+/// How a counter-run is shown.
+#[derive(Clone, Copy)]
+pub enum ReplayForm {
+    /// The cells of each row that differs, a word each.
+    Words,
+    /// What happened, and the page as authored beside what is shown, in characters.
+    Text,
+    /// The same as an HTML page.
+    Html,
+}
+
 /// What `replay` is asked for.
 #[derive(Clone, Copy)]
 pub struct ReplayOrder<'a> {
     pub cycle: &'a str,
     pub service: &'a str,
     pub counter: &'a str,
+    pub form: ReplayForm,
 }
 
 /// What `splice` is asked for.

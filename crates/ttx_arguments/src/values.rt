@@ -5,13 +5,13 @@ ghost use Rattle.clap.specs.Words.{rows_of, found_of};
 ghost use Rattle.ttx_arguments.specs.Arguments.{takes_of};
 ghost use Rattle.ttx_arguments.specs.Numbers.{numeral};
 ghost use Rattle.ttx_arguments.specs.Orders as rule;
-ghost use Rattle.ttx_arguments.specs.Orders.{look_view, kind_named, class_named, form_named, tuning_asked, look_at, sending_at};
+ghost use Rattle.ttx_arguments.specs.Orders.{look_view, kind_named, class_named, form_named, replay_form_named, tuning_asked, look_at, sending_at};
 ghost use Rattle.ttx_arguments.specs.Orders.{IsInside, number_given, number_at, lines_at, repeat_at};
 ghost use Rattle.ttx_arguments.specs.Values.{given_at, text_at, is_set};
 ghost use Rattle.ttx_arguments.specs.declared.arguments.Argument.TheVariants as argument;
 
 use crate::arguments::{Argument, Takes};
-use crate::orders::{Look, ReceiverKind, Sending, Tuning};
+use crate::orders::{Look, ReceiverKind, ReplayForm, Sending, Tuning};
 use crate::ranges::{Fields, Lines, Repeat};
 use clap::ArgMatches;
 use ttx_page::{Class, Selection};
@@ -143,6 +143,19 @@ pub(crate) fn form_of(values: &ArgMatches<'_>) -> Form
         Form::Html
     } else {
         Form::Ansi
+    }
+}
+
+pub(crate) fn replay_form_of(values: &ArgMatches<'_>) -> ReplayForm
+    ensures { result ≡ replay_form_named (text_at argument.ReplayForm (rows_of (found_of values.now))) }
+{
+    let name = text_of(values, Argument::ReplayForm);
+    if name == "text" {
+        ReplayForm::Text
+    } else if name == "html" {
+        ReplayForm::Html
+    } else {
+        ReplayForm::Words
     }
 }
 

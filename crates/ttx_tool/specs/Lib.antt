@@ -18,6 +18,7 @@ pub mod FindDeadline
 pub mod Refute
 pub mod UnlikeViews
 pub mod Replay
+pub mod ReplayPage
 pub mod Report
 pub mod Monitor
 pub mod MonitorReports

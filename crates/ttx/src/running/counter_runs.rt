@@ -6,8 +6,9 @@ use crate::devices::create_out;
 use crate::reports::{report, status_of};
 use std::io;
 use std::io::Write;
-use ttx_arguments::{RefuteOrder, ReplayOrder};
+use ttx_arguments::{RefuteOrder, ReplayForm, ReplayOrder};
 use ttx_cycle::Counted;
+use ttx_failure::FailureForm;
 use ttx_tool::{ToolFault, commands};
 
 // Looks for a viewer whom a cycle fails: status 1 where there is one, else 0.
@@ -65,13 +66,34 @@ fn replay_readers(rt: &HostRuntime, readers: &mut ClaimReaders) -> Result<u8, To
     )
 }
 
-fn replay_claim(rt: &HostRuntime, claim: Claim) -> Result<u8, ToolFault> {
+// The same as a picture.
+fn picture_readers(
+    rt: &HostRuntime,
+    readers: &mut ClaimReaders,
+    form: FailureForm,
+) -> Result<u8, ToolFault> {
+    let mut writer = Counted::new(io::writer(rt));
+    commands::replay_page::run(
+        rt.alloc(),
+        &mut readers.cycle,
+        &mut readers.service,
+        &mut readers.text,
+        form,
+        &mut writer,
+    )
+}
+
+fn replay_claim(rt: &HostRuntime, claim: Claim, form: ReplayForm) -> Result<u8, ToolFault> {
     let mut readers = claim.readers(rt)?;
-    replay_readers(rt, &mut readers)
+    match form {
+        ReplayForm::Words => replay_readers(rt, &mut readers),
+        ReplayForm::Text => picture_readers(rt, &mut readers, FailureForm::Text),
+        ReplayForm::Html => picture_readers(rt, &mut readers, FailureForm::Html),
+    }
 }
 
 /// Opens the cycle, the service and the counter-run, and shows what is shown after it.
 pub fn replay(rt: &HostRuntime, order: &ReplayOrder<'_>) -> Outcome {
     let claim = Claim::open(rt, order.cycle, order.service, order.counter)?;
-    Ok(status_of(rt, replay_claim(rt, claim)))
+    Ok(status_of(rt, replay_claim(rt, claim, order.form)))
 }
