@@ -3,6 +3,7 @@
 use std::alloc::Global;
 use std::process::Abort;
 use std::test::Fail;
+use ttx_author_files::is_author_text;
 use ttx_desk::{ComposeFault, Mistake, compose, decompose, push_mistakes};
 
 const SETTINGS: &str = "author = 1\nlines = 12\nserial = true\n[[page]]\nnumber = \"100\"\n";
@@ -128,4 +129,21 @@ fn rows_are_too_many(rt: HostRuntime) -> Result<(), Fail> {
         desk.toml:8:6: error: this row stands in `text` too; leave one of them out\n\
         desk.toml:34:1: error: `text` has more than 24 lines; a page has rows 1 to 24\n3 mistakes\n",
     )
+}
+
+// Whether a text is an author's text.
+fn is_author(alloc: Global, text: &str) -> Result<bool, Fail> {
+    let is = is_author_text(alloc, text.as_bytes())?;
+    Ok(is)
+}
+
+#[test]
+fn authors_texts_are_known(rt: HostRuntime) -> Result<(), Fail> {
+    assert!(&rt; is_author(rt.alloc(), "# mine\n\nauthor = 1\nlines = 12\n")?);
+    assert!(&rt; is_author(rt.alloc(), "\u{feff}\"author\" = 0x1\n")?);
+    assert!(&rt; !is_author(rt.alloc(), "author = 2\n")?);
+    assert!(&rt; !is_author(rt.alloc(), "lines = 12\nauthor = 1\n")?);
+    assert!(&rt; !is_author(rt.alloc(), "author.name = 1\n")?);
+    assert!(&rt; !is_author(rt.alloc(), "author = 1\nlines = \n")?);
+    Ok(())
 }
