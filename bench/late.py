@@ -5,8 +5,10 @@ usage: late.py PROGRAM [SERVICES [SEED]]
 
 Plans, finds and certifies random services (200, seed 1), each as it is and, if the program's `plan` has the option, with `--late`. A
 model in this script finds from the packets which headers follow each page. If pkg-config finds libzvbi (zvbi-0.2), its decoder gets the
-cycle from some tuning slots on: for three periods, and for D times L plus G slots. The status is 1 if the certifier and the model differ,
-or if a promised page is missing or has other rows than authored.
+cycle from some tuning slots on: for three periods, and for D times L plus G slots. Numbers with subpages are keyed without subcode, too,
+where `certify --late --numbers` says yes: every frame from then on has to show one of the subpages as authored, each of them again within
+as many slots, and for as many slots as it is said to stay. The status is 1 if the certifier and the model differ, if a promised page is
+missing or has other rows than authored, or if a frame does not show what is said of a number.
 """
 import random
 import re
@@ -95,6 +97,16 @@ def shown(decoder, cycle, start, count, pages):
     return answer
 
 
+def frames(decoder, cycle, start, count, number):
+    """What the decoder shows of a number without subcode: the slots at which that changes, and the rows, or None."""
+    told = subprocess.run([decoder, cycle, str(start), str(count), number], capture_output=True, text=True, check=True).stdout.split("\n")
+    at = 0
+    while told[at]:
+        rows = None if told[at + 1] == "-" else told[at + 1 : at + 25]
+        yield int(told[at]), rows
+        at += 2 if rows is None else 25
+
+
 def build_decoder(folder):
     flags = subprocess.run(["pkg-config", "--cflags", "--libs", "zvbi-0.2"], capture_output=True, text=True)
     if flags.returncode != 0:
@@ -135,6 +147,35 @@ class Comparison:
             self.fault(f"{name} {options}: {said!r} in place of {wanted!r}")
         if self.decoder:
             self.show(rng, name, pages, gaps, deadline * lines, len(cycle) // 42)
+            self.key(rng, name, pages, len(cycle) // 42)
+
+    def key(self, rng, name, pages, slots):
+        """Keys the numbers with several pages, without subcode."""
+        said = self.run("certify", "planned.t42", f"{name}.toml", "found.cert", "--late", "--numbers").stdout
+        for number, every, stays in re.findall(r"number (\w+) pages \d+ every (\d+) slots stays (\d+)", said):
+            authored = [[page[3].get(r, "").ljust(40) for r in range(1, 25)] for page in pages if page[0] == number]
+            for start in [0] + rng.sample(range(slots), min(slots, 4)):
+                self.watch(f"{name} {number} from slot {start}", start, int(every) + 3 * slots, number, authored, int(every), int(stays))
+
+    def watch(self, what, start, count, number, authored, every, stays):
+        shown = list(frames(self.decoder, self.folder / "planned.t42", start, count, number))
+        ends = [at for at, _ in shown[1:]] + [count]
+        self.counts["keyed"] += 1
+        for (at, rows), end in zip(shown, ends):
+            if end <= every:
+                continue
+            self.counts["frames"] += end - max(at, every)
+            if rows not in authored:
+                self.fault(f"{what}: neither subpage is shown at slot {max(at, every)}")
+            elif at > every and end < count:
+                self.counts["stays"] += 1
+                if end - at < stays:
+                    self.fault(f"{what}: a subpage stays {end - at} slots of {stays}")
+        for rows in authored:
+            times = [0] + [time for (at, own), end in zip(shown, ends) if own == rows for time in (at, end)] + [count]
+            away = max(then - before for before, then in zip(times[::2], times[1::2]))
+            if authored.count(rows) == 1 and away > every:
+                self.fault(f"{what}: a subpage is not shown for {away} slots of {every}")
 
     def show(self, rng, name, pages, gaps, deadline, slots):
         authored = {page[:2]: [page[3].get(r, "").ljust(40) for r in range(1, 25)] for page in pages}
@@ -159,6 +200,7 @@ class Comparison:
             print(f"  pages followed: {count['followed', 'shown']} shown, {count['followed', 'never shown']} never shown")
             print(f"  pages not followed: {count['not followed', 'shown']} shown, {count['not followed', 'never shown']} never shown")
             print(f"  shown as authored after D times L and G slots: {count['in time']} pages and tuning slots asked")
+            print(f"  numbers keyed: {count['keyed']} numbers and tuning slots, {count['frames']} frames, {count['stays']} stays")
 
 
 def main():

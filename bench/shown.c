@@ -1,9 +1,12 @@
-/* Gives packets of a file to a new teletext decoder of libzvbi, 24 slots in a frame, and prints what it then shows of some pages.
+/* Gives packets of a file to a new teletext decoder of libzvbi, and prints what it then shows of some pages.
  *
  * usage: shown FILE START COUNT MPP/SSSS..
+ *        shown FILE START COUNT MPP
  *
  * COUNT slots are taken from slot START on, round the file. A slot of 42 zero bytes is a line without teletext. For each page
- * the output has rows 1 to 24, one line each, or one line `-` if the decoder has not stored the page. */
+ * the output has rows 1 to 24, one line each, or one line `-` if the decoder has not stored the page. There are 24 slots in a frame.
+ * For a number without subcode each slot is a frame, and the output has these lines each time that they change, after a line with the count
+ * of slots so far. */
 #include <libzvbi.h>
 #include <stdio.h>
 #include <stdlib.h>
@@ -33,38 +36,63 @@ static void ignore(vbi_event *event, void *data) {
     (void)data;
 }
 
-static void print_page(vbi_decoder *decoder, const char *word) {
-    unsigned number, sub;
+/* The rows that the decoder shows of a page, or `-`. */
+static void read_page(vbi_decoder *decoder, unsigned number, unsigned sub, char *text) {
     vbi_page page;
-    if (sscanf(word, "%3x/%4x", &number, &sub) != 2) exit(1);
     if (!vbi_fetch_vt_page(decoder, &page, number, sub, VBI_WST_LEVEL_1, 25, FALSE)) {
-        puts("-");
+        strcpy(text, "-\n");
         return;
     }
     for (int row = 1; row < 25; row++) {
         for (int column = 0; column < 40; column++) {
             unsigned code = page.text[row * page.columns + column].unicode;
-            putchar(code >= 32 && code < 127 ? (int)code : '?');
+            *text++ = code >= 32 && code < 127 ? (char)code : '?';
         }
-        putchar('\n');
+        *text++ = '\n';
     }
+    *text = 0;
     vbi_unref_page(&page);
 }
 
+/* Decodes the slots of a frame, of which there are so many. */
+static void decode(vbi_decoder *decoder, size_t first, size_t slots, size_t end, size_t length) {
+    static double time = 0;
+    vbi_sliced frame[LINES];
+    vbi_decode(decoder, frame, fill_frame(frame, first, first + slots < end ? first + slots : end, length), time);
+    time += 1 / 25.0;
+}
+
+/* Follows a number without subcode. */
+static void follow(vbi_decoder *decoder, unsigned number, size_t start, size_t end, size_t length) {
+    static char text[LONGEST], before[LONGEST];
+    for (size_t slot = start; slot < end; slot++) {
+        decode(decoder, slot, 1, end, length);
+        read_page(decoder, number, VBI_ANY_SUBNO, text);
+        if (strcmp(text, before) == 0) continue;
+        printf("%zu\n%s", slot - start, text);
+        strcpy(before, text);
+    }
+}
+
 int main(int count, char **words) {
-    FILE *file = count > 3 ? fopen(words[1], "rb") : NULL;
+    FILE *file = count > 4 ? fopen(words[1], "rb") : NULL;
     size_t length = file ? fread(packets, PACKET, LONGEST, file) : 0;
     vbi_decoder *decoder = vbi_decoder_new();
     if (length == 0 || !decoder) return 1;
     vbi_event_handler_add(decoder, VBI_EVENT_TTX_PAGE, ignore, NULL);
     size_t start = strtoul(words[2], NULL, 10), end = start + strtoul(words[3], NULL, 10);
-    double time = 0;
-    for (size_t first = start; first < end; first += LINES) {
-        vbi_sliced frame[LINES];
-        vbi_decode(decoder, frame, fill_frame(frame, first, first + LINES < end ? first + LINES : end, length), time);
-        time += 1 / 25.0;
+    unsigned number, sub;
+    if (sscanf(words[4], "%3x/%4x", &number, &sub) == 1) {
+        follow(decoder, number, start, end, length);
+    } else {
+        for (size_t first = start; first < end; first += LINES) decode(decoder, first, LINES, end, length);
+        for (int word = 4; word < count; word++) {
+            static char text[LONGEST];
+            if (sscanf(words[word], "%3x/%4x", &number, &sub) != 2) return 1;
+            read_page(decoder, number, sub, text);
+            fputs(text, stdout);
+        }
     }
-    for (int word = 4; word < count; word++) print_page(decoder, words[word]);
     vbi_decoder_delete(decoder);
     return 0;
 }

@@ -75,6 +75,12 @@ echo "Planned for them, too: a time-filling header stands between two headers of
 run plan broadcast.toml late.t42 --late
 run find late.t42 broadcast.toml late.cert
 run certify late.t42 broadcast.toml late.cert --late
+echo "Whoever keys 110 and no subcode sees its three pages in turn, each for the blink of an eye; with --spread each stays as long as promised."
+back 1 wait late.t42 broadcast.toml --numbers
+run plan broadcast.toml spread.t42 --late --spread
+run find spread.t42 broadcast.toml spread.cert
+run certify spread.t42 broadcast.toml spread.cert --late --numbers
+back 1 wait spread.t42 broadcast.toml --numbers
 echo "What a receiver shows that was set to the forecast at slot 40; and its first rows for programs, a word for each cell."
 look show broadcast.t42 131 --lines 12 --start 40
 front 3 receive broadcast.t42 131 --lines 12 --start 40

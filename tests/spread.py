@@ -67,8 +67,18 @@ def blocks(pages):
     return [index for turn in range(8) for index, page in enumerate(pages) if turn % (8 // page["often"]) == at[index]]
 
 
-def serial(pages, lines, info):
-    """The slots: (page, item) where a packet of a page stands; items are 0 for the page header, rows, and 25 for X/27/0."""
+def fillers(pages, order):
+    """The pages in an order, each with whether its magazine has just sent its page number, as far as receivers that show late go."""
+    latest = {}
+    for index in order:
+        page = pages[index]
+        yield index, latest.get(page["mag"]) == page["number"]
+        latest[page["mag"]] = page["number"]
+
+
+def serial(pages, lines, info, order=None, late=False):
+    """The slots: (page, item) where a packet of a page stands; items are 0 for the page header, rows, and 25 for X/27/0. `late`: a
+    time-filling header, (None, magazine), stands between two headers of one page number too."""
     slots = []
 
     def put(what):
@@ -76,22 +86,26 @@ def serial(pages, lines, info):
             slots.append(None)
         slots.append(what)
 
-    for index in blocks(pages):
+    for index, again in fillers(pages, order or blocks(pages)):
+        if late and again:
+            put((None, pages[index]["mag"]))
         put((index, 0))
         for _ in range(lines):
             put(None)
         for row in range(1, pages[index]["rows"] + 1):
             put((index, row))
         put((index, 25))
-    for _ in {page["mag"] for page in pages}:
-        put(None)
+    for mag in sorted({page["mag"] for page in pages}):
+        put((None, mag) if late else None)
     return slots + [None] * (-len(slots) % lines)
 
 
-def parallel(pages, lines, info):
+def parallel(pages, lines, info, order=None, late=False):
     queues = {mag: [] for mag in range(1, 9)}
-    for index in blocks(pages):
-        queues[pages[index]["mag"]] += [(index, item) for item in [*range(pages[index]["rows"] + 1), 25]]
+    for index, again in fillers(pages, order or blocks(pages)):
+        queue = queues[pages[index]["mag"]]
+        queue += [(None, 0)] if late and again else []
+        queue += [(index, item) for item in [*range(pages[index]["rows"] + 1), 25]]
     for queue in queues.values():
         if queue:
             queue.append((None, 0))
@@ -113,7 +127,7 @@ def parallel(pages, lines, info):
         latest = mag
         if item == 0 and index is not None:
             headed[mag] = place
-        slots.append((index, item) if index is not None else None)
+        slots.append((index, item) if index is not None else (None, mag) if late else None)
     return slots + [None] * (-len(slots) % lines)
 
 

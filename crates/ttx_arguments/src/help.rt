@@ -101,14 +101,19 @@ The cycle has eight rounds, and a page with often N is sent in N of them.
 Without --spread every page is sent in the first round, which is then the
 longest. With --spread the rounds are of like length, so a page that is sent
 often comes at regular intervals; and a page that has within in SERVICE, and no
-often, is sent as often as that takes. If that is not possible, OUT stays empty,
-and there is a line for each page that comes too late:
+often, is sent as often as that takes. The subpages of a number, one of which
+has stays, come once each in a cycle, in turn, and the other pages between them
+as often as that takes. If it is not possible, OUT stays empty, and there is a
+line for each page that comes too late, or for each number that stays too short:
   late PAGE F fields of G   PAGE is seen after up to F fields; its within is G
                             fields
+  stays MPP F fields of G   subpages of MPP stay F fields; stays is G fields
+  unseen PAGE, never-shown PAGE SLOT   with these turns not every receiver, or
+                                       no late one, would show PAGE
 
 Statuses:
   0  done
-  1  a page is late
+  1  a page is late, or a number stays too short
   2  error: .. (the arguments), refused: service NUMBER NAME [KEY] page N,
      refused: service too-long, refused: plan 1 no-pages,
      refused: plan 2 too-long

@@ -4,6 +4,7 @@ use crate::base::{self, HEADER, SERVICE, TIME_FILLING, beginning, certificate_te
 use std::alloc::Global;
 use std::test::Fail;
 use ttx_certify::Verdict;
+use ttx_change::{WholeChange, judge_whole};
 use ttx_cycle::Cycle;
 use ttx_late::LateVerdict;
 use ttx_playout::{ChangeFault, Edition, LateChange, OnAir, StartFault};
@@ -104,7 +105,20 @@ fn is_judged(alloc: Global, on_air: &OnAir, next: &Edition, gap: usize) -> bool 
         Ok(LateChange::No(SpliceReason::Numbers)) => !is_same,
         _ => false,
     };
-    is_spliced && is_late
+    is_spliced && is_late && is_judged_whole(alloc, on_air, next, gap)
+}
+
+// The same for receivers that show a page only where it ends; the cycle leaves nothing open.
+fn is_judged_whole(alloc: Global, on_air: &OnAir, next: &Edition, gap: usize) -> bool {
+    let is_same = next.certificate.deadline() == 27;
+    match judge_whole(alloc, on_air, next, gap) {
+        Ok(WholeChange::Yes) => is_same && gap == 27,
+        Ok(WholeChange::No(LateChange::TooFar { gap: greatest })) => is_same
+            && gap == 26
+            && greatest == 27,
+        Ok(WholeChange::No(LateChange::No(SpliceReason::Numbers))) => !is_same,
+        _ => false,
+    }
 }
 
 // Whether the edition takes over where its change is accepted.

@@ -9,7 +9,7 @@ mod FreshUntilHeader
 mod SameInputs
 mod PlannedFiles
 mod PlanOfText
-mod PromisedPlans
+mod SpreadTexts
 mod TooLong
 mod ThreeInputs
 mod ServiceIds

@@ -11,6 +11,7 @@ pub mod Receive
 pub mod Show
 pub mod Plan
 pub mod Promised
+pub mod SpreadPlans
 pub mod Preview
 pub mod Extract
 pub mod Find

@@ -37,6 +37,7 @@ pub mod splice;
 pub mod splice_late;
 pub mod splice_sent;
 pub mod standing;
+mod stays;
 pub mod version;
 pub mod wait;
 pub mod wait_numbers;

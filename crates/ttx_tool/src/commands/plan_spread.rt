@@ -1,37 +1,68 @@
-//! `plan --spread`: the cycle that carries a service in rounds of like length, and keeps its promises.
+//! `plan --spread`: the cycle that carries a service in rounds of like length, and keeps its promises and its stays.
 
-ghost use Rattle.std.specs.Prelude.{◌≤◌, ◌∷◌, [], IfSome, map};
+ghost use Rattle.std.specs.Prelude.{◌≡◌, ◌≤◌, ◌∷◌, [], IfSome, IfOk, IfErr, Ok, Err};
 ghost use Rattle.ttx_cycle.specs.Counters.{inner_of, faults_of};
 ghost use Rattle.ttx_cycle.specs.Cycles.{slots_of};
 ghost use Rattle.ttx_files.specs.Answers.{IsUntouched};
 ghost use Rattle.ttx_files.specs.Devices.{AtService, input, output};
-ghost use Rattle.ttx_promise.specs.PromiseLines.{late_lines};
-ghost use Rattle.ttx_promise.specs.Views.{late_view};
 ghost use Rattle.ttx_tool.specs.Devices.{is_tool_write, Fails, Reads};
-ghost use Rattle.ttx_tool.specs.Promised.{Spreads, WritesPlan, PlansSpread};
 ghost use Rattle.ttx_tool.specs.Reports.{Reports};
+ghost use Rattle.ttx_tool.specs.SpreadPlans.{SaysFault, Spreads, WritesPlan, PlansSpread};
 
 use super::plan::planned_line;
-use super::promised::read_promised;
 use super::reports::write_text;
+use super::stays::read_staying;
 use crate::faults::ToolFault;
-use std::alloc::Global;
+use std::alloc::{AllocError, Global};
 use std::io::{Read, Write};
+use ttx_carousel::{StayFault, missed_line, plan_stays, stay_lines};
 use ttx_cycle::{Counted, Cycle};
 use ttx_files::{FilesFault, write_both};
 use ttx_plan::PlanFault;
-use ttx_promise::{LatePage, PromiseFault, Viewers, late_lines, plan_promises};
+use ttx_promise::{PromiseFault, Viewers, late_lines};
 
 // What becomes of a plan.
 #[derive(Drop)]
 enum Spread {
-    // Each promise is kept.
+    // All is kept.
     Kept(Cycle),
-    // These pages come too late.
-    Late(Vec<LatePage>),
+    // The lines of what is not kept.
+    Missed(String),
 }
 
-// The plan of the service of a text, or the pages that come too late.
+// The answer of lines.
+fn missed(lines: Result<String, AllocError>) -> Result<Spread, ToolFault>
+    ensures lines { IfOk lines (λ text. result ≡ Ok (Spread.Missed text)) }
+    ensures memory { IfErr lines (λ _. result ≡ Err (ToolFault.Files FilesFault.NoMemory)) }
+{
+    match lines {
+        Ok(text) => Ok(Spread::Missed(text)),
+        Err(_) => Err(ToolFault::Files(FilesFault::NoMemory)),
+    }
+}
+
+// The answer where there is no plan.
+fn say(alloc: Global, fault: StayFault) -> Result<Spread, ToolFault>
+    ensures { SaysFault fault result }
+{
+    match fault {
+        StayFault::Promise {
+            fault: PromiseFault::Late { pages },
+        } => missed(late_lines(alloc, &pages)),
+        StayFault::Promise {
+            fault: PromiseFault::NoPages,
+        } => Err(ToolFault::Plan(PlanFault::NoPages)),
+        StayFault::Promise {
+            fault: PromiseFault::TooLong,
+        } => Err(ToolFault::Plan(PlanFault::TooLong)),
+        StayFault::TooLong => Err(ToolFault::Plan(PlanFault::TooLong)),
+        StayFault::Short { numbers } => missed(stay_lines(alloc, &numbers)),
+        StayFault::Missed { missed: what } => missed(missed_line(alloc, what)),
+        _ => Err(ToolFault::Files(FilesFault::NoMemory)),
+    }
+}
+
+// The plan of the service of a text, or the lines of what no plan keeps.
 fn spread_text<R: Read>(
     alloc: Global,
     reader: &mut Counted<R>,
@@ -42,16 +73,19 @@ fn spread_text<R: Read>(
     ensures bytes { IfSome (R.remaining (inner_of reader.old)) (λ bytes. Spreads bytes viewers result) }
     ensures faults { Reads (input AtService (R.remaining (inner_of reader.old)) (faults_of reader.old) (faults_of reader.new) ∷ []) result }
 {
-    let mut promised = match read_promised(alloc, reader) {
-        Ok(promised) => promised,
+    let mut staying = match read_staying(alloc, reader) {
+        Ok(staying) => staying,
         Err(fault) => return Err(fault),
     };
-    match plan_promises(alloc, &mut promised.service, viewers, &promised.promises) {
+    match plan_stays(
+        alloc,
+        &mut staying.promised.service,
+        viewers,
+        &staying.promised.promises,
+        &staying.stays,
+    ) {
         Ok(cycle) => Ok(Spread::Kept(cycle)),
-        Err(PromiseFault::Late { pages }) => Ok(Spread::Late(pages)),
-        Err(PromiseFault::NoPages) => Err(ToolFault::Plan(PlanFault::NoPages)),
-        Err(PromiseFault::TooLong) => Err(ToolFault::Plan(PlanFault::TooLong)),
-        Err(PromiseFault::NoMemory) => Err(ToolFault::Files(FilesFault::NoMemory)),
+        Err(fault) => say(alloc, fault),
     }
 }
 
@@ -77,25 +111,10 @@ fn write_plan<O: Write, W: Write>(
     }
 }
 
-// Writes the lines of pages that come too late.
-fn write_late<W: Write>(
-    alloc: Global,
-    pages: &[LatePage],
-    writer: &mut Counted<W>,
-) -> Result<u8, ToolFault>
-    ensures bytes { Reports (late_lines (map late_view pages.now)) 1 (W.contents (inner_of writer.old)) (W.contents (inner_of writer.new)) result }
-    ensures faults { Fails (output (faults_of writer.old) (faults_of writer.new) ∷ []) result }
-    ensures untouched { IsUntouched is_tool_write result writer.old writer.new }
-{
-    let Ok(lines) = late_lines(alloc, pages) else {
-        return Err(ToolFault::Files(FilesFault::NoMemory));
-    };
-    write_text(writer, lines.as_str(), 1)
-}
-
-/// Reads the text of a service with its promises, and writes the packet file of a spread plan that keeps each promise to these viewers;
-/// then the number of its slots to the other writer: the status is 0. If there is no such plan, writes nothing to the file, and to the
-/// other writer a line for each page that comes too late: the status is 1. `repeat` of the viewers is 1 to 8.
+/// Reads the text of a service with its promises and its stays, and writes the packet file of a spread plan that keeps all of them to these
+/// viewers; then the number of its slots to the other writer: the status is 0. If there is no such plan, writes nothing to the file, and to
+/// the other writer a line for each page that comes too late, for each number that stays too short, or for what else is missed in a cycle
+/// that keeps the stays: the status is 1. `repeat` of the viewers is 1 to 8.
 ///
 /// Nothing is written before the whole plan is made. After `Write` exactly the first `written` bytes of both went out, the file's before the
 /// line's; after any other fault both writers are unchanged.
@@ -117,7 +136,7 @@ pub fn run<R: Read, O: Write, W: Write>(
 {
     match spread_text(alloc, reader, viewers) {
         Ok(Spread::Kept(cycle)) => write_plan(alloc, &cycle, file, writer),
-        Ok(Spread::Late(pages)) => write_late(alloc, &pages, writer),
+        Ok(Spread::Missed(lines)) => write_text(writer, lines.as_str(), 1),
         Err(fault) => Err(fault),
     }
 }

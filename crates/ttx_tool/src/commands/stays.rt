@@ -1,0 +1,55 @@
+//! What is read of the text of a service with promises and stays.
+
+ghost use Rattle.std.specs.Prelude.{◌∷◌, [], IfSome};
+ghost use Rattle.ttx_cycle.specs.Counters.{inner_of, faults_of};
+ghost use Rattle.ttx_files.specs.Devices.{AtService, input};
+ghost use Rattle.ttx_tool.specs.Devices.{Reads};
+ghost use Rattle.ttx_tool.specs.SpreadPlans.{DefinesStaying, ReadsStaying};
+
+use super::promised::{Promised, define};
+use crate::faults::ToolFault;
+use std::alloc::Global;
+use std::io::Read;
+use ttx_cycle::Counted;
+use ttx_files::{FilesFault, read_service_text};
+use ttx_source::{Promise, SourceError, read_stays};
+
+/// A service with its promises, and its stays.
+#[derive(Drop)]
+pub(super) struct Staying {
+    pub promised: Promised,
+    pub stays: Vec<Promise>,
+}
+
+// The service, the promises and the stays of a text.
+fn define_stays(alloc: Global, text: &[u8]) -> Result<Staying, SourceError>
+    ensures { DefinesStaying text.now result }
+{
+    let promised = match define(alloc, text) {
+        Ok(promised) => promised,
+        Err(error) => return Err(error),
+    };
+    match read_stays(alloc, text) {
+        Ok(stays) => Ok(Staying { promised, stays }),
+        Err(error) => Err(error),
+    }
+}
+
+/// Reads the text of a service with its promises and its stays. A fault of the service comes before one of the promises, and this before
+/// one of the stays.
+pub(super) fn read_staying<R: Read>(
+    alloc: Global,
+    reader: &mut Counted<R>,
+) -> Result<Staying, ToolFault>
+    ensures bytes { IfSome (R.remaining (inner_of reader.old)) (λ bytes. ReadsStaying bytes result) }
+    ensures faults { Reads (input AtService (R.remaining (inner_of reader.old)) (faults_of reader.old) (faults_of reader.new) ∷ []) result }
+{
+    let text = match read_service_text(alloc, reader) {
+        Ok(text) => text,
+        Err(fault) => return Err(ToolFault::Files(fault)),
+    };
+    match define_stays(alloc, text.as_slice()) {
+        Ok(staying) => Ok(staying),
+        Err(error) => Err(ToolFault::Files(FilesFault::Service(error))),
+    }
+}
