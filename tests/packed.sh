@@ -16,19 +16,19 @@ else
     echo "packed: there is no groff, so the man page isn't laid out"
     cp "$work/ttx.1" "$work/page"
 fi
-grep -q 'Reads CYCLE and SERVICE, in this order' "$work/page" || fail "the man page: no text of find"
+tr -s ' ' < "$work/page" | grep -q 'Reads CYCLE and SERVICE, in this order' || fail "the man page: no text of find"
 
 # the completions that bash offers after these words
 offered() {
     bash -c 'source "$1"; shift; COMP_WORDS=("$@"); COMP_CWORD=$(($# - 1)); compopt() { :; }; _ttx; echo "${COMPREPLY[@]}"' bash "$work/ttx.bash" "$@"
 }
-[ "$(offered ttx re)" = "refute replay receive" ] || fail "bash: ttx re: $(offered ttx re)"
+[ "$(offered ttx re)" = "refute replay report receive" ] || fail "bash: ttx re: $(offered ttx re)"
 [ "$(offered ttx receive x --ki)" = "--kind" ] || fail "bash: --ki: $(offered ttx receive x --ki)"
 [ "$(offered ttx show x 100 --as s)" = "svg" ] || fail "bash: --as s: $(offered ttx show x 100 --as s)"
 
 count=0
 for command in $("$program" --help | sed -n 's/^  \([a-z]*\)  .*/\1/p' | grep -vx help | sort -u); do
-    for option in $("$program" "$command" --help | sed -n 's/^ *\(-h, \)*--\([a-z]*\).*/\2/p'); do
+    for option in $("$program" "$command" --help | sed -n 's/^ *\(-h, \)*--\([a-z-]*\).*/\2/p'); do
         count=$((count + 1))
         grep -q "^        $command) .*'--$option\\[" "$work/_ttx" || fail "zsh: $command --$option"
         grep -q "__fish_seen_subcommand_from $command' -l $option" "$work/ttx.fish" || fail "fish: $command --$option"

@@ -49,7 +49,7 @@ def joined(lines):
 
 
 def option_of(line):
-    found = re.match(r"\s+(?:-h, )?--([a-z]+)(?: <(.+?)>)?\s{2,}(.*)", line)
+    found = re.match(r"\s+(?:-h, )?--([a-z-]+)(?: <(.+?)>)?\s{2,}(.*)", line)
     values = re.search(r"\[possible values: (.*?)\]", found[3])
     return Option(found[1], found[2] or "", found[3], values[1].split(", ") if values else [])
 
