@@ -796,7 +796,8 @@ what the clock shows:
   field N TIME end
       all fields were sent
 
-TIME, --zone and --offset are as those of send. Without --at it is now.
+TIME and --offset are as those of send. Without --at it is now. Each ZONE is
+refused so far: refused: zone
 
 Statuses:
   0  N fields are sent
