@@ -4,7 +4,7 @@
 # make demo       the main job on a shipped example
 # make install    puts program, man page and completions under PREFIX (/usr/local)
 # make dist       dist/ttx-VERSION-x86_64-linux.tar.gz: program, man page, completions and documents, and its checksum
-# make bench      times the program beside plain tools; writes nothing into the repository
+# make bench      measures the program beside plain tools, as rows of docs/MEASURED.md
 # make edits      tries each mutant of the must-fail edits by itself, and records the results in tools/edits.tsv
 # make compare    compares what certify --late says with what libzvbi's decoder shows, where there is one, also under damaged receptions
 
@@ -13,12 +13,12 @@ VERSION = 1.0.0
 PACKED = ttx-$(VERSION)-x86_64-linux
 PREFIX = /usr/local
 
-# how many crates are proved at a time; each takes 1 to 4 GB
+# how many crates and mutants are proved at a time; each takes 1 to 4 GB, less than rt assumes when it is not told
 JOBS = 4
 
 # scripts that run the built program, the longest first
-SCRIPTS = $(addprefix tests/, refused_calls.py refute.py memory.sh cases.py json_lines.py shipped.sh large.py planned.py waits.py spliced.py schedules.py sent.py monitored.py recognised.py \
-	spread.py pages.py reported.py checked.py packed.sh extracted.py authors.py documents.py refused_texts.py characters.py)
+SCRIPTS = $(addprefix tests/, refused_calls.py refute.py memory.sh cases.py json_lines.py shipped.sh large.py planned.py waits.py keyed.py spliced.py schedules.py sent.py aired.py monitored.py recognised.py \
+	spread.py pictured.py pages.py reported.py checked.py packed.sh extracted.py authors.py documents.py refused_texts.py characters.py)
 
 .PHONY: all ttx try test demo bench edits compare helpers install dist $(SCRIPTS)
 
@@ -30,7 +30,7 @@ ttx:
 	cp $(BUILT) ttx
 
 test:
-	python3 tools/progress.py out/test.log rt ci
+	RT_JOBS=$(JOBS) python3 tools/progress.py out/test.log rt ci
 	$(MAKE) --no-print-directory --jobs $$(nproc) --output-sync $(SCRIPTS)
 
 $(filter %.py,$(SCRIPTS)):
@@ -48,7 +48,7 @@ demo: ttx
 	sh demo/demo.sh ./ttx
 
 bench: ttx
-	sh bench/bench.sh ./ttx
+	python3 bench/table.py ./ttx
 	python3 bench/air.py ./ttx
 
 edits:

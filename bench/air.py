@@ -1,6 +1,6 @@
 #!/usr/bin/env python3
-"""Measures `air`: packets a second without changes, the processor time that a change of 300 pages takes, and the most memory at 300 and 2,000
-pages, after ten changes and after 1,000.
+"""Measures `air`, and prints rows of the first table of docs/MEASURED.md: its time without changes, and for 300 and for 1,200 pages, of which hardly
+more fit into a cycle, the processor time from one change to the next, and the most memory after ten changes and after 1,000.
 
 usage: air.py PROGRAM [CHANGES]
 
@@ -69,12 +69,12 @@ def main():
         begin = time.time()
         subprocess.run([program, "air", "service.toml", "--within", str(WITHIN), "--at", "61000/120000", "--fields", str(fields)], cwd=folder,
                        stdout=subprocess.DEVNULL, stderr=subprocess.DEVNULL, check=True)
-        print(f"{fields / (time.time() - begin) / 1e6:.1f} million packets a second without changes")
-        for pages, rows in (300, 20), (2000, 8):
+        took = time.time() - begin
+        print(f"| `air`, {fields:,} slots | {took * 1000:,.1f} | - | - | {fields / took / 1e6:.1f} million slots a second |")
+        for pages, rows in (300, 20), (1200, 20):
             texts = [service(pages, rows, word) for word in ("one", "two")]
             ten, all_of_them, each, changed = changes(program, folder, texts, count)
-            print(f"{pages} pages: {each:.3f} s of processor time from one change to the next, {ten:.1f} MB after 10, {all_of_them:.1f} MB after {count}; "
-                  f"{changed} changes")
+            print(f"| `air`, a change of {pages:,} pages | {each * 1000:,.1f} | - | {all_of_them:.1f} | {ten:.1f} MB after 10, {changed:,} changes made |")
 
 
 if __name__ == "__main__":

@@ -90,7 +90,7 @@ def main():
     faults = list(wrong(log, shown, changes))
     for fault in faults[:20]:
         print("wrong:", fault)
-    print(f"{log.count(' changed ')} changes of {len(PAGES)} pages, {len(shown)} times another version shown, {len(faults)} wrong")
+    print(f"| `air`, {FIELDS // 50:,} s: changes of {len(PAGES)} pages; versions shown; wrong | {log.count(' changed '):,}; {len(shown):,}; {len(faults):,} |")
     return 1 if faults else 0
 
 

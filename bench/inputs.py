@@ -150,4 +150,5 @@ def subcodes(count):
             made += 1
 
 
-main()
+if __name__ == "__main__":
+    main()

@@ -3,7 +3,7 @@
 
 usage: late.py PROGRAM [SERVICES [SEED]]
 
-Plans, finds and certifies random services (200, seed 1), each as it is and, if the program's `plan` has the option, with `--late`. A
+Plans, finds and certifies random services (200, seed 1), each as it is, with `--late`, and with `--spread` too, which keeps `stays`. A
 model in this script finds from the packets which headers follow each page. If pkg-config finds libzvbi (zvbi-0.2), its decoder gets the
 cycle from some tuning slots on: for three periods, and for D times L plus G slots. Numbers with subpages are keyed without subcode, too,
 where `certify --late --numbers` says yes: every frame from then on has to show one of the subpages as authored, each of them again within
@@ -45,6 +45,7 @@ def write_service(rng, pages, path):
         text += ["[info]", 'network = "12F4"', "mjd = 46000", "utc = 123045"]
     for number, sub, often, rows in pages:
         text += ["[[page]]", f'number = "{number}"', f'sub = "{sub}"', f"often = {often}", 'head = "A page"', "row24 = true"]
+        text += [] if sub == "0000" else [f"stays = {1 + int(number) % 5}.0"]
         text += ["[page.rows]"] + [f'{r} = "{row}"' for r, row in sorted(rows.items())]
     path.write_text("\n".join(text) + "\n")
     return lines
@@ -191,16 +192,17 @@ class Comparison:
                 for page in (page for page in gaps if gaps[page] == gap):
                     self.counts["in time"] += 1
                     if in_time[page] != authored[page]:
+                        self.counts["not in time"] += 1
                         self.fault(f"{name} {page} isn't shown {deadline + gap} slots after slot {start}")
 
     def report(self, title):
         count = self.counts
-        print(f"{title}: {count['services']} services, {count['yes']} yes, {count['no 13']} no 13")
+        print(f"| `{title}`: services; yes; no 13 | {count['services']:,}; {count['yes']:,}; {count['no 13']:,} |")
         if self.decoder:
-            print(f"  pages followed: {count['followed', 'shown']} shown, {count['followed', 'never shown']} never shown")
-            print(f"  pages not followed: {count['not followed', 'shown']} shown, {count['not followed', 'never shown']} never shown")
-            print(f"  shown as authored after D times L and G slots: {count['in time']} pages and tuning slots asked")
-            print(f"  numbers keyed: {count['keyed']} numbers and tuning slots, {count['frames']} frames, {count['stays']} stays")
+            print(f"| pages followed: shown; never shown | {count['followed', 'shown']:,}; {count['followed', 'never shown']:,} |")
+            print(f"| pages not followed: shown; never shown | {count['not followed', 'shown']:,}; {count['not followed', 'never shown']:,} |")
+            print(f"| pages and tuning slots, after D times L and G slots: asked; not as authored | {count['in time']:,}; {count['not in time']:,} |")
+            print(f"| numbers keyed, with tuning slots; frames; stays | {count['keyed']:,}; {count['frames']:,}; {count['stays']:,} |")
 
 
 def main():
@@ -211,8 +213,7 @@ def main():
     with tempfile.TemporaryDirectory() as place:
         folder = Path(place)
         decoder = build_decoder(folder)
-        plans = [[]] + ([["--late"]] if "--late" in subprocess.run([program, "plan", "--help"], capture_output=True, text=True).stdout else [])
-        for options in plans:
+        for options in [], ["--late"], ["--late", "--spread"]:
             rng, comparison = random.Random(seed), Comparison(program, decoder, folder)
             for number in range(services):
                 pages = make_pages(rng)
@@ -220,7 +221,6 @@ def main():
                 comparison.compare(random.Random(number), str(number), pages, lines, options)
             comparison.report(" ".join(["plan", *options]))
             wrong += comparison.wrong
-    print(f"{wrong} wrong")
     return 1 if wrong else 0
 
 

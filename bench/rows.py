@@ -151,12 +151,14 @@ class Comparison:
         (self.folder / "received.t42").write_bytes(slots)
         return shown(self.decoder, self.folder / "received.t42", 0, len(slots) // 42, [page])[page[:2]]
 
-    def report(self, repeat):
-        count = self.counts
-        refused = sum(value for (k, word), value in count.items() if k == repeat and word.startswith("no "))
-        print(f"rule by rows, repeat {repeat}: {count[repeat, 'services']} services certified, {refused} not")
-        print(f"  {count[repeat, 'pages']} pages, {count[repeat, 'rows spoilt']} of their rows torn or lost: {self.wrong} pages not as authored")
-        print(f"  with one row torn each time: {count[repeat, 'beyond missed']} of {count[repeat, 'beyond']} pages not as authored")
+    def report(self, services):
+        count = Counter()
+        for (_, word), value in self.counts.items():
+            count[word] += value
+        refused = sum(value for word, value in count.items() if word.startswith("no "))
+        print(f"| {services:,} services, rule by rows, repeat 1 and 2: certified; not | {count['services']:,}; {refused:,} |")
+        print(f"| rows torn or lost; receptions; not as authored | {count['rows spoilt']:,}; {count['pages']:,}; {self.wrong:,} |")
+        print(f"| one row torn each time: receptions; not as authored | {count['beyond']:,}; {count['beyond missed']:,} |")
 
 
 def authored(page):
@@ -172,17 +174,15 @@ def main():
         decoder = build_decoder(folder)
         if decoder is None:
             return 0
-        wrong = 0
+        comparison = Comparison(program, decoder, folder)
         for repeat in (1, 2):
-            rng, comparison = random.Random(seed), Comparison(program, decoder, folder)
+            rng = random.Random(seed)
             for number in range(services):
                 pages = make_pages(rng)
                 lines = write_service(rng, pages, folder / f"{number}.toml")
                 comparison.compare(random.Random(number), str(number), pages, lines, repeat)
-            comparison.report(repeat)
-            wrong += comparison.wrong
-    print(f"{wrong} wrong")
-    return 1 if wrong else 0
+        comparison.report(services)
+    return 1 if comparison.wrong else 0
 
 
 if __name__ == "__main__":

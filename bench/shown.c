@@ -5,8 +5,9 @@
  *
  * COUNT slots are taken from slot START on, round the file. A slot of 42 zero bytes is a line without teletext. For each page
  * the output has rows 1 to 24, one line each, or one line `-` if the decoder has not stored the page. There are 24 slots in a frame.
- * For a number without subcode each slot is a frame, and the output has these lines each time that they change, after a line with the count
- * of slots so far. */
+ * For a number without subcode each slot is a frame. The number is read after the first slot, and whenever the decoder reports that it has
+ * stored a page of it: at the end of a block. In between, from the header of a subpage on, libzvbi gives the copy that it has kept of this
+ * subpage, unless C4 is set. The output has these lines each time that they change, after a line with the count of slots before this one. */
 #include <libzvbi.h>
 #include <stdio.h>
 #include <stdlib.h>
@@ -31,9 +32,15 @@ static int fill_frame(vbi_sliced *frame, size_t first, size_t end, size_t length
     return filled;
 }
 
-static void ignore(vbi_event *event, void *data) {
-    (void)event;
-    (void)data;
+/* What the decoder has stored of a page number. */
+struct stored {
+    vbi_pgno number;
+    int is_new;
+};
+
+static void note(vbi_event *event, void *data) {
+    struct stored *stored = data;
+    if (event->ev.ttx_page.pgno == stored->number) stored->is_new = 1;
 }
 
 /* The rows that the decoder shows of a page, or `-`. */
@@ -62,12 +69,14 @@ static void decode(vbi_decoder *decoder, size_t first, size_t slots, size_t end,
     time += 1 / 25.0;
 }
 
-/* Follows a number without subcode. */
-static void follow(vbi_decoder *decoder, unsigned number, size_t start, size_t end, size_t length) {
+/* Follows a number without subcode: reads it whenever the decoder has stored one of its pages. */
+static void follow(vbi_decoder *decoder, struct stored *stored, size_t start, size_t end, size_t length) {
     static char text[LONGEST], before[LONGEST];
     for (size_t slot = start; slot < end; slot++) {
         decode(decoder, slot, 1, end, length);
-        read_page(decoder, number, VBI_ANY_SUBNO, text);
+        if (slot > start && !stored->is_new) continue;
+        stored->is_new = 0;
+        read_page(decoder, stored->number, VBI_ANY_SUBNO, text);
         if (strcmp(text, before) == 0) continue;
         printf("%zu\n%s", slot - start, text);
         strcpy(before, text);
@@ -79,11 +88,13 @@ int main(int count, char **words) {
     size_t length = file ? fread(packets, PACKET, LONGEST, file) : 0;
     vbi_decoder *decoder = vbi_decoder_new();
     if (length == 0 || !decoder) return 1;
-    vbi_event_handler_add(decoder, VBI_EVENT_TTX_PAGE, ignore, NULL);
+    struct stored stored = {0, 0};
+    vbi_event_handler_add(decoder, VBI_EVENT_TTX_PAGE, note, &stored);
     size_t start = strtoul(words[2], NULL, 10), end = start + strtoul(words[3], NULL, 10);
     unsigned number, sub;
     if (sscanf(words[4], "%3x/%4x", &number, &sub) == 1) {
-        follow(decoder, number, start, end, length);
+        stored.number = number;
+        follow(decoder, &stored, start, end, length);
     } else {
         for (size_t first = start; first < end; first += LINES) decode(decoder, first, LINES, end, length);
         for (int word = 4; word < count; word++) {

@@ -17,13 +17,6 @@ run() {
     echo
 }
 
-# shows a page, with colours on a terminal
-look() {
-    echo "\$ ttx $*"
-    if [ -t 1 ]; then "$program" "$@" --as ansi; else "$program" "$@" --as text; fi
-    echo
-}
-
 # runs another tool, with all its output
 show() {
     echo "\$ $*"
@@ -56,27 +49,34 @@ back() {
 }
 
 echo "A page of a service, as its author sees it before anything is sent."
-look preview broadcast.toml 130
-echo "The service of 25 pages becomes the cycle of packets that carries it."
+run preview broadcast.toml 130
+echo "The 25 pages of the service are laid out as a cycle of packets."
 run plan broadcast.toml broadcast.t42
 echo "Its first slots: packet 8/30, the page header of the index, an empty field, and the first rows."
 front 20 inspect broadcast.t42
-echo "A certificate that names sure transmissions of each row of each page, and the least number of fields in which all are seen."
+echo "A certificate names transmissions of each row of each page that no receiver may miss, and the least number of fields in which all are seen."
 run find broadcast.t42 broadcast.toml broadcast.cert
 show head -n 10 broadcast.cert
 echo
-echo "The same in seconds, page by page, with what takes so long: the last pages, and all."
+echo "The longest wait for each page in seconds, and the item that causes it: the last pages, and all."
 back 4 wait broadcast.t42 broadcast.toml
-echo "The verdict on cycle, service and certificate: whoever tunes to a page, at whatever slot, sees it in so many fields."
+echo "The verdict on cycle, service and certificate: whoever tunes to a page, at any slot, sees it within so many fields."
 run certify broadcast.t42 broadcast.toml broadcast.cert
-echo "Most software decoders show a page only where another page number ends it in its magazine; not every page of this cycle is."
+echo "libzvbi's decoder shows a page only when another page number ends it in its magazine; in this cycle not every page is ended so."
 run certify broadcast.t42 broadcast.toml broadcast.cert --late
-echo "Planned for them, too: a time-filling header stands between two headers of a magazine that have one page number."
+echo "Planned for such decoders, too: a time-filling header comes between two headers of one page number."
 run plan broadcast.toml late.t42 --late
 run find late.t42 broadcast.toml late.cert
 run certify late.t42 broadcast.toml late.cert --late
+echo "Whoever keys 110 and no subcode sees its three subpages in turn, and cannot read them: a stay may be less than a tenth of a second."
+back 1 wait late.t42 broadcast.toml --numbers
+echo "With --spread each stays for the eight seconds that the service asks for, and all other pages come between them."
+run plan broadcast.toml spread.t42 --late --spread
+run find spread.t42 broadcast.toml spread.cert
+run certify spread.t42 broadcast.toml spread.cert --late --numbers
+back 1 wait spread.t42 broadcast.toml --numbers
 echo "What a receiver shows that was set to the forecast at slot 40; and its first rows for programs, a word for each cell."
-look show broadcast.t42 131 --lines 12 --start 40
+run show broadcast.t42 131 --lines 12 --start 40
 front 3 receive broadcast.t42 131 --lines 12 --start 40
 echo "Now the cycle is broken: row 1 of the forecast is moved from slot 495 next to its header, where a receiver may miss it."
 show cp broadcast.t42 broken.t42
@@ -84,11 +84,11 @@ show dd if=broadcast.t42 of=broken.t42 bs=42 skip=495 seek=483 count=1 conv=notr
 show dd if=/dev/zero of=broken.t42 bs=42 seek=495 count=1 conv=notrunc status=none
 echo
 run certify broken.t42 broadcast.toml broadcast.cert
-echo "Nor is there another certificate: nothing is written to it."
+echo "No other certificate is accepted either, so none is written."
 run find broken.t42 broadcast.toml none.cert
-echo "That is no fine point of the rules. There is a viewer whom the cycle fails, however long the wait:"
+echo "This is a real failure: a receiver that keeps the rules still shows the page wrong after the deadline."
 run refute broken.t42 broadcast.toml broadcast.cert --save viewer
-echo "That receiver misses row 1 each time, and shows what it held before. The row as it is seen, and as the page has it:"
+echo "That receiver misses row 1 each time, and shows what it held before. The row as it is shown, and as the page has it:"
 front 5 replay broken.t42 broadcast.toml viewer
 echo "Tomorrow's forecast. The carousel is changed at a period's end; is each page that stays seen right through the change?"
 echo "\$ sed 's/0001Storm /0003Sunny /' broadcast.toml > tomorrow.toml"
@@ -96,10 +96,10 @@ sed 's/0001Storm /0003Sunny /' broadcast.toml > tomorrow.toml
 run plan tomorrow.toml tomorrow.t42
 run find tomorrow.t42 tomorrow.toml tomorrow.cert
 run splice broadcast.t42 tomorrow.t42 broadcast.toml tomorrow.toml broadcast.cert tomorrow.cert
-echo "A text as its author writes it, accents, colours and mosaics as they look, becomes a service text, a cycle, and a page on a screen."
+echo "An author's text, with accents, colours and mosaics as they look, becomes a service text, a cycle, and a page on a screen."
 run compose harbour.toml harbour-service.toml
 run plan harbour-service.toml harbour.t42
-look show harbour.t42 100 --lines 12
+run show harbour.t42 100 --lines 12
 echo "All pages as one HTML file for a browser, with an index: three typed digits lead to a page."
 run book broadcast.t42 broadcast.html
 show ls broadcast.html
@@ -107,7 +107,7 @@ keep broadcast.html
 echo
 echo "A wrong bit in the address of the fifth slot: it is read, and the line says that it was corrected."
 front 5 inspect bad-slot.t42
-echo "What can't be read is refused, with its place; and an author is told where the mistake is."
+echo "A file that cannot be read is refused, with the place; and the place of an author's mistake is reported."
 run inspect 83-bytes
 run plan often-3.toml refused.t42
 run check often-3.toml
@@ -131,4 +131,4 @@ echo
 echo "The forecast on a receiver that got the last two periods:"
 echo "\$ tail -c 126000 air.t42 > end.t42"
 tail -c 126000 air.t42 > end.t42
-look show end.t42 131 --lines 12
+run show end.t42 131 --lines 12

@@ -1,6 +1,7 @@
 #!/usr/bin/env python3
 """Puts services on the air, changes their texts meanwhile, and compares what `air` writes, byte for byte, and its log, line for line, with a
-plain head-end in this script. The texts that are saved are good ones, with each kind of refusal between two of them.
+plain head-end in this script. The texts that are saved are good ones, with each kind of refusal between two of them. An author's text is
+composed by `compose` first.
 
 usage: aired.py PROGRAM
 
@@ -20,26 +21,65 @@ import threading
 import time
 from pathlib import Path
 
-from sent import timed
+from sent import timed, zone_file
 
 TOP = Path(__file__).resolve().parent.parent
-MJD, SECOND = 61000, 86390
-AT = "61000/235950"
-AHEAD = 3600
 PIPE = 4096
+
+
+class Clock:
+    """What the clock shows: the moment of the first field in UTC, how it is named, and how far it is ahead so many seconds later."""
+
+    def __init__(self, mjd, second, name, words, ahead, halves):
+        self.mjd, self.second, self.name, self.words, self.ahead, self.halves = mjd, second, name, words, ahead, halves
+        self.at = f"{mjd}/{second // 3600:02}{second // 60 % 60:02}{second % 60:02}"
+
+    def text(self, field):
+        """The field's time, as the log says it."""
+        ahead = self.ahead(field // 50)
+        day = datetime.datetime(1858, 11, 17) + datetime.timedelta(days=self.mjd, seconds=self.second + field // 50 + ahead)
+        return day.strftime("%Y-%m-%dT%H:%M:%S") + f"+{ahead // 3600:02}:00"
+
+    def timed(self, slot, field):
+        ahead = self.ahead(field // 50)
+        days, second = divmod(self.second + field // 50, 86400)
+        return timed(slot, self.mjd + days, second, ahead, ahead // 1800 if self.halves else None)
+
+
+# over midnight; and over the last Sunday of March 2026, 01:00 UTC
+MIDNIGHT = Clock(61000, 86390, "ahead 3600", ["--offset", "2"], lambda second: 3600, False)
+SUMMER = Clock(61128, 3590, "zone Test/Berlin", ["--zone", "Test/Berlin"], lambda second: 3600 if second < 10 else 7200, True)
 
 
 def ran(program, folder, *words):
     return subprocess.run([program, *words], cwd=folder, capture_output=True, text=True, check=False)
 
 
-class Service:
-    """A text, and what the other commands say of it."""
+def mark_of(file):
+    return " " + hashlib.sha256(file).hexdigest()
 
-    def __init__(self, program, folder, text, late):
+
+def is_author(file):
+    return file.startswith(b"author = 1\n")
+
+
+def composed(program, folder, file):
+    """The service text that a file without mistakes stands for."""
+    if not is_author(file):
+        return file
+    (folder / "author.toml").write_bytes(file)
+    run = ran(program, folder, "compose", "author.toml", "composed.toml")
+    assert run.returncode == 0, run.stdout
+    return (folder / "composed.toml").read_bytes()
+
+
+class Service:
+    """The service text that a file stands for, and what the other commands say of it."""
+
+    def __init__(self, program, folder, file, late):
         self.program, self.folder = program, folder
-        self.text, self.late = text, ["--late"] if late else []
-        self.mark = " " + hashlib.sha256(text).hexdigest()
+        self.file, self.mark, self.late = file, mark_of(file), ["--late"] if late else []
+        self.text = text = composed(program, folder, file)
         (folder / "text.toml").write_bytes(text)
         self.planned = ran(program, folder, "plan", "text.toml", "text.t42", *self.late)
         self.slots = []
@@ -85,12 +125,6 @@ def spliced(old, new, deadline):
     return None if said == "yes\n" else said
 
 
-def times(field):
-    """The field's time, as the log says it."""
-    day = datetime.datetime(1858, 11, 17) + datetime.timedelta(days=MJD, seconds=SECOND + field // 50 + AHEAD)
-    return day.strftime("%Y-%m-%dT%H:%M:%S") + "+01:00"
-
-
 def pages(count):
     return f"{count} page{'' if count == 1 else 's'}"
 
@@ -98,26 +132,26 @@ def pages(count):
 class HeadEnd:
     """A plain head-end: what it sends, and its log."""
 
-    def __init__(self, first, within, fields, late):
-        self.lines, self.fields = first.lines, fields
+    def __init__(self, first, within, fields, late, clock):
+        self.lines, self.fields, self.clock = first.lines, fields, clock
         least = first.certified()
         up = -(-first.gap() // self.lines)
         share = within * up // (least + up)
         self.deadline, self.gap = within - share, share * self.lines
         kinds = ("late" if late else "at-once") + " plain"
-        self.log = [f"air within {within} repeat 1 {kinds} lines {self.lines} fields {fields} at {AT} ahead {AHEAD}"]
+        self.log = [f"air within {within} repeat 1 {kinds} lines {self.lines} fields {fields} at {clock.at} {clock.name}"]
         self.note(0, f"on air{first.mark}: {pages(len(first.ids))}, deadline {self.deadline} fields "
                      f"({self.deadline // 50}.{self.deadline % 50 * 2:02} s), {len(first.slots)} slots")
         self.service, self.held, self.sent, self.stream = first, None, 0, bytearray()
-        self.next, self.tried, self.unread = 0, first.text, False
+        self.next, self.tried, self.unread = 0, first.file, False
 
     def note(self, field, words):
-        self.log.append(f"field {field} {times(field)} {words}")
+        self.log.append(f"field {field} {self.clock.text(field)} {words}")
 
     def period(self):
         """Sends the edition on the air once."""
         for slot in self.service.slots:
-            self.stream += timed(slot, *divmod_day(SECOND + self.sent // self.lines // 50), AHEAD)
+            self.stream += self.clock.timed(slot, self.field())
             self.sent += 1
         if self.held is not None:
             self.held += len(self.service.slots)
@@ -143,11 +177,6 @@ class HeadEnd:
         came, gone = len([p for p in new if p not in old]), len([p for p in old if p not in new])
         self.note(self.field(), f"changed{service.mark}: {pages(came)} new, {gone} gone, deadline {self.deadline}")
         self.service, self.held = service, 0
-
-
-def divmod_day(seconds):
-    days, second = divmod(seconds, 86400)
-    return MJD + days, second
 
 
 class Air:
@@ -181,9 +210,10 @@ def edited(text, old, new):
 
 
 def more_pages(text, count):
-    """The text with so many pages more, each full."""
+    """The text with so many pages more, each full: pages 200 to 799, and then again as their subpages."""
     rows = "".join(f'{n} = "{"x" * 40}"\n' for n in range(1, 24))
-    return text + "".join(f'\n[[page]]\nnumber = "{200 + n // 10 * 6 + n:X}"\n[page.rows]\n{rows}' for n in range(count)).encode()
+    names = (f'number = "{200 + n % 600}"\nsub = "{n // 600:04}"' for n in range(count))
+    return text + "".join(f"\n[[page]]\n{name}\n[page.rows]\n{rows}" for name in names).encode()
 
 
 def moved_page(text):
@@ -204,10 +234,29 @@ def late_texts():
     return [("lines = 2\nserial = true\n" + "".join(f'[[page]]\nnumber = "{page}"\n' for page in pages)).encode() for pages in texts]
 
 
+def author_texts():
+    """Authors' texts with a mistake in a row, in a number and in a promise, and half-written, between good ones; a service text is one of them."""
+    good = ('author = 1\nlines = 2\nserial = true\n# The menu of the day.\n[[page]]\nnumber = "100"\noption = "french"\n'
+            '[page.rows]\n1 = "{yellow}Caf\u00e9"\ntext = """\n\n{red}Cr\u00eape \u00e0 la cr\u00e8me\n"""\n')
+    other = good.replace("red", "cyan")
+    texts = [good, good.replace("{red}", "{rde}"), other, good.replace("Caf\u00e9", "\u2603"), good + good[good.index("[[page]]"):], good,
+             good.replace("[page.rows]", "within = 0\n[page.rows]"), other.replace("la", "du"), good[: len(good) // 2 + 60],
+             'lines = 2\nserial = true\n[[page]]\nnumber = "100"\nhead = "a service text"\n', good.replace("lines = 2", "lines = 33"), other]
+    return [text.encode() for text in texts]
+
+
+def author_words(report):
+    """The words about the first mistake that `check` reports of an author's text: those of a service follow the name of their value."""
+    line, column, words = re.match(r"checked\.toml:(\d+):(\d+): error: (.*)", report).groups()
+    return f"line {line} column {column}{' ' if re.match('page |info |lines: |serial: ', words) else ': '}{words}"
+
+
 def check_words(program, folder, text):
     (folder / "checked.toml").write_bytes(text)
-    said = ran(program, folder, "check", "checked.toml").stdout
-    return said.rstrip("\n") if said.startswith("line ") else None
+    said = ran(program, folder, "check", "checked.toml")
+    if said.returncode != 2:
+        return None
+    return author_words(said.stdout) if said.stdout.startswith("checked.toml:") else said.stdout.rstrip("\n")
 
 
 def steps(base):
@@ -221,7 +270,7 @@ def steps(base):
         edited(base, b"serial = true", b"serial = yes"),
         edited(base, b"lines = 12", b"lines = 99"),
         edited(base, b"lines = 12", b"lines = 13"),
-        more_pages(base, 1200),
+        more_pages(base, 1300),
         more_pages(base, 60),
         b"",
         base[: len(base) // 2],
@@ -230,6 +279,17 @@ def steps(base):
     for number, text in enumerate(refused):
         told += [good[number % len(good)], text]
     return told + [good[1], good[1], good[0]]
+
+
+def too_slow(service, limit):
+    """The pages for which viewers wait longer."""
+    return ", ".join(f"{page} {fields} fields of {limit}" for page, fields in service.waits() if fields > limit)
+
+
+def slow_words(first, within):
+    """The pages of a first text that are too slow, beside the gap of late receivers."""
+    first.certified()
+    return too_slow(first, within + -first.gap() // first.lines)
 
 
 def news(head_end, text):
@@ -244,15 +304,15 @@ def news(head_end, text):
         return
     head_end.tried = text
     program, folder = head_end.service.program, head_end.service.folder
-    service = Service(program, folder, text, bool(head_end.service.late))
     words = check_words(program, folder, text)
     if words is not None:
-        head_end.keep(service.mark, words)
-    elif service.planned.returncode != 0:
+        head_end.keep(mark_of(text), words)
+        return
+    service = Service(program, folder, text, bool(head_end.service.late))
+    if service.planned.returncode != 0:
         head_end.keep(service.mark, service.planned.stderr.removeprefix("refused: ").rstrip("\n"))
     elif service.certified() > head_end.deadline:
-        slow = [f"{page} {fields} fields of {head_end.deadline}" for page, fields in service.waits() if fields > head_end.deadline]
-        head_end.keep(service.mark, "late " + ", ".join(slow))
+        head_end.keep(service.mark, "late " + too_slow(service, head_end.deadline))
     else:
         reason = spliced(head_end.service, service, head_end.deadline)
         if reason is None and service.late:
@@ -282,8 +342,8 @@ def different(head_end, stream, status, errors):
     return None
 
 
-def options(within, late, fields):
-    return ["--within", str(within / 50), "--at", AT, "--offset", "2", "--fields", str(fields)] + ([] if late else ["--at-once"])
+def options(within, late, fields, clock):
+    return ["--within", str(within / 50), "--at", clock.at, *clock.words, "--fields", str(fields)] + ([] if late else ["--at-once"])
 
 
 def give(path, text, process):
@@ -304,14 +364,14 @@ def give(path, text, process):
         file.write(text)
 
 
-def wrong_air(program, folder, texts, within, late, periods):
+def wrong_air(program, folder, texts, within, late, periods, clock=MIDNIGHT):
     """What is wrong with an airing of these texts, each of which is there when the pipe is opened once more; or None."""
     path = folder / "service.pipe"
     os.mkfifo(path)
     first = Service(program, folder, texts[0], late)
     fields = len(first.slots) * periods // first.lines
-    head_end = HeadEnd(first, within, fields, late)
-    air = subprocess.Popen([program, "air", path.name, *options(within, late, fields), "--log", "log"], cwd=folder, stdout=subprocess.PIPE,
+    head_end = HeadEnd(first, within, fields, late, clock)
+    air = subprocess.Popen([program, "air", path.name, *options(within, late, fields, clock), "--log", "log"], cwd=folder, stdout=subprocess.PIPE,
                            stderr=subprocess.PIPE, stdin=subprocess.DEVNULL)
     got = {}
     threads = [threading.Thread(target=lambda n, s: got.update({n: s.read()}), args=(n, s)) for n, s in (("out", air.stdout), ("err", air.stderr))]
@@ -343,8 +403,8 @@ def wrong_file(program, folder, texts, within):
     path.write_bytes(texts[0])
     first = Service(program, folder, texts[0], True)
     fields = len(first.slots) * 5 * len(texts) // first.lines
-    head_end = HeadEnd(first, within, fields, True)
-    air = Air(program, folder, [path.name, *options(within, True, fields)])
+    head_end = HeadEnd(first, within, fields, True, MIDNIGHT)
+    air = Air(program, folder, [path.name, *options(within, True, fields, MIDNIGHT)])
     for text in texts[1:]:
         # past the end of the last period, and well before that of the next one
         air.read_to(42 * (head_end.sent + 260))
@@ -365,7 +425,7 @@ def wrong_file(program, folder, texts, within):
 def wrong_end(program, folder, base):
     """What is wrong where the reader goes away; or None."""
     (folder / "service.toml").write_bytes(base)
-    air = Air(program, folder, ["service.toml", "--within", "6", "--at", AT])
+    air = Air(program, folder, ["service.toml", "--within", "6", "--at", MIDNIGHT.at])
     air.read_to(100_000)
     os.close(air.reader)
     status, errors = air.ended()
@@ -379,14 +439,14 @@ def wrong_start(program, folder, base):
     """What is wrong where a first text has no edition; or None."""
     path = folder / "service.toml"
     cases = [
-        (edited(base, b"lines = 12", b"lines = 99"), "6", "refused: line 9 column 9 lines: lines is out of range"),
-        (more_pages(base, 1200), "6", "refused: plan 2 too-long\n"),
-        (base, "2", "refused: late 100/0000 "),
+        (edited(base, b"lines = 12", b"lines = 99"), "6", "refused: line 9 column 9 lines: lines is out of range: it takes an integer from 1 to 32\n"),
+        (more_pages(base, 1300), "6", "refused: plan 2 too-long\n"),
+        (base, "2", "refused: late " + slow_words(Service(program, folder, base, True), 100) + "\n"),
     ]
     for text, within, wanted in cases:
         path.write_bytes(text)
-        run = ran(program, folder, "air", "service.toml", "--within", within, "--at", AT, "--fields", "1")
-        if run.returncode != 2 or run.stdout or not run.stderr.startswith(wanted):
+        run = ran(program, folder, "air", "service.toml", "--within", within, "--at", MIDNIGHT.at, "--fields", "1")
+        if (run.returncode, run.stdout, run.stderr) != (2, "", wanted):
             return f"wanted {wanted!r}, not {run.returncode} {run.stderr!r}"
     return None
 
@@ -396,6 +456,9 @@ def main():
     base = (TOP / "examples/broadcast.toml").read_bytes()
     with tempfile.TemporaryDirectory() as name:
         folder = Path(name)
+        (folder / "zones/Test").mkdir(parents=True)
+        (folder / "zones/Test/Berlin").write_bytes(zone_file("CET-1CEST,M3.5.0,M10.5.0/3"))
+        os.environ["TZDIR"] = str(folder / "zones")
         checks = [
             lambda: wrong_start(program, folder, base),
             lambda: wrong_air(program, folder, steps(base), 250, True, 60),
@@ -403,8 +466,10 @@ def main():
             lambda: wrong_air(program, folder, [base, moved_page(base), moved_page(base), base], 130, False, 12),
             lambda: wrong_air(program, folder, late_texts(), 240, True, 8),
             lambda: wrong_air(program, folder, short_texts(), 100, True, 100),
+            lambda: wrong_air(program, folder, author_texts(), 100, True, 100),
             lambda: wrong_file(program, folder, [base, None, None, steps(base)[2], base], 250),
             lambda: wrong_end(program, folder, base),
+            lambda: wrong_air(program, folder, steps(base)[:3], 250, True, 12, SUMMER),
         ]
         wrong = [said for said in (check() for check in checks) if said is not None]
     for said in wrong:

@@ -338,6 +338,31 @@ def check_back(program, service_text, service):
     assert composed(program, "back.toml", "again.toml")[1] == service, (read(service_text), read("back.toml"))
 
 
+def check_warnings(program):
+    """`check` warns of an author's text as of the service text, but not of codes: what the author wrote is what viewers see."""
+    short = [line.removeprefix("warning ") for line in run(program, "check", "out.toml").stdout.split("\n")[:-1]]
+    wanted = [line for line in short if " is shown as " not in line and " is an escape only " not in line]
+    ran = run(program, "check", "desk.toml")
+    lines = ran.stdout.split("\n")[:-1]
+    assert ran.returncode == 0 and not ran.stderr, ran
+    if wanted and not wanted[0].startswith("ok "):
+        assert lines.pop() == f"0 errors, {len(wanted)} warning" + "s" * (len(wanted) != 1), ran
+        lines = [re.fullmatch(r"desk\.toml:\d+:\d+: warning: (.*)", line)[1] for line in lines]
+        assert lines == wanted, (read("desk.toml"), lines, wanted)
+    else:
+        assert len(lines) == 1 and lines[0].startswith("ok pages "), (read("desk.toml"), lines)
+
+
+def check_mistakes(program, told):
+    """`check` tells all mistakes of `compose`, and what else is wrong."""
+    ran = run(program, "check", "desk.toml")
+    lines = ran.stdout.split("\n")[:-1]
+    assert ran.returncode == 2 and not ran.stderr, ran
+    assert lines[:len(told)] == told, (read("desk.toml"), lines, told)
+    last = re.fullmatch(r"(\d+) errors?, (\d+) warnings?(; the first 100 are shown)?", lines[-1])
+    assert last and (last[3] or len(lines) == 1 + int(last[1]) + int(last[2])), lines
+
+
 def check_text(program, rng, kinds):
     text, due, service = random_file(rng)
     save("desk.toml", text)
@@ -349,6 +374,7 @@ def check_text(program, rng, kinds):
         for number, before in enumerate(told.split("[[page]]")[:-1], 100):
             assert before.endswith(f"# page {number}\n"), before
         check_back(program, "out.toml", service)
+        check_warnings(program)
         kinds["composed"] += 1
         return
     ran = run(program, "compose", "desk.toml", "out.toml")
@@ -359,6 +385,7 @@ def check_text(program, rng, kinds):
     assert len(lines) == min(count, 100), (text, lines)
     for line, (at, words) in zip(lines, due):
         assert line.startswith(f"desk.toml:{at}: error: ") and words in line, (text, line, at, words)
+    check_mistakes(program, lines)
     kinds["refused"] += 1
     kinds["mistakes"] += count
 

@@ -1,6 +1,7 @@
 #!/usr/bin/env python3
 """Runs `check` over random service texts. The expected warnings come from a plain reader in this script, which knows what it wrote. For a
-text with one mistake, the line must name the place where the mistake was written.
+text with one mistake, the line must name the place where the mistake was written. The long report has the same warnings, or the same first
+mistake, each with the line of its place and a caret. Of a key that is given twice it tells both places.
 
 usage: checked.py PROGRAM [COUNT]
 """
@@ -32,21 +33,34 @@ def value_text(value):
 
 
 class Text:
-    """A text, and the places of its values."""
+    """A text, and the places of its values. The key at the path `twice` is given again at the end of its table; `given` has both places."""
 
-    def __init__(self):
+    def __init__(self, twice=None):
         self.text, self.places = "", {}
+        self.twice, self.given = twice, []
 
     def add(self, more):
         self.text += more
+
+    def key(self, path, words):
+        if path == self.twice:
+            self.given.append(len(self.text))
+        self.add(words)
+
+    def again(self, path, before, words, after):
+        if self.twice and self.twice[:-1] == path and self.given:
+            self.add(before)
+            self.key(self.twice, f"{words}{self.twice[-1]} = 1{after}")
 
     def value(self, path, value, inline):
         self.places[path] = len(self.text)
         if isinstance(value, dict):
             self.add("{")
             for at, (key, inner) in enumerate(value.items()):
-                self.add((", " if at else " ") + key + " = ")
+                self.add(", " if at else " ")
+                self.key((*path, key), key + " = ")
                 self.value((*path, key), inner, inline)
+            self.again(path, ", ", "", "")
             self.add(" }")
         elif isinstance(value, list):
             self.add("[")
@@ -61,21 +75,23 @@ class Text:
         for key, value in table.items():
             if isinstance(value, dict) and value and random.random() < below:
                 for inner, text in value.items():
-                    self.add(f"{key} . {inner} = ")
+                    self.key((*path, key, inner), f"{key} . {inner} = ")
                     self.value((*path, key, inner), text, True)
                     self.add("\n")
+                self.again((*path, key), "", f"{key}.", "\n")
                 continue
-            self.add(f"{key}{random.choice(['=', ' = '])}")
+            self.key((*path, key), f"{key}{random.choice(['=', ' = '])}")
             self.value((*path, key), value, True)
             self.add(random.choice(["\n", " # 'a' remark\n", "\n\n"]))
+        self.again(path, "", "", "\n")
 
     def line(self, path, label, words):
         before = self.text[:self.places[path]]
         return f"line {before.count(chr(10)) + 1} column {len(before) - before.rfind(chr(10))} {label}: {words}\n"
 
 
-def written(service, inline):
-    text = Text()
+def written(service, inline, twice=None):
+    text = Text(twice)
     text.add(random.choice(["", "# [[page]]\n", "\n"]))
     top = {key: value for key, value in service.items() if key not in ("page", "info")}
     text.table((), top, 0)
@@ -350,9 +366,75 @@ def mistake(service):
     return (*path, "head"), f"{name} head", "head takes another kind of value: it takes a text of at most 24 characters"
 
 
-def check(program, text):
-    done = subprocess.run([program, "check", "-"], input=text.encode(), capture_output=True, timeout=60, check=False)
+def check(program, text, *options):
+    done = subprocess.run([program, "check", "-", *options], input=text.encode(), capture_output=True, timeout=60, check=False)
     return done.returncode, done.stdout.decode(), done.stderr.decode()
+
+
+def number_of(count, word):
+    return f"{count} {word}" + "s" * (count != 1)
+
+
+def long_notes(given, told):
+    """The notes of a long report, each as the place, the kind and the words; each has the line of its place and a caret below the column."""
+    lines = told.split("\n")
+    notes, shown = [], given.split("\n")
+    for first, source, caret in zip(lines[0:-2:3], lines[1:-2:3], lines[2:-2:3]):
+        line, column, kind, words = re.fullmatch(r"<stdin>:(\d+):(\d+): (error|warning): (.*)", first).groups()
+        wanted = shown[int(line) - 1]
+        assert source == re.sub(r"[\x00-\x08\x0b-\x1f\x7f]", "?", wanted), (source, wanted)
+        assert caret == re.sub("[^\t]", " ", wanted[:int(column) - 1]) + "^", (caret, wanted)
+        notes.append((int(line), int(column), kind, words))
+    return notes
+
+
+def long_is_wrong(program, given, want):
+    """Whether the long report has other warnings than the short one, or another first error, or whether warnings do not count with --strict."""
+    status, told, _errors = check(program, given, "--long", "--strict")
+    if want.startswith("ok "):
+        return (status, told) != (0, want)
+    notes = long_notes(given, told)
+    errors = sum(kind == "error" for _line, _column, kind, _words in notes)
+    if told.split("\n")[-2] != f"{number_of(errors, 'error')}, {number_of(len(notes) - errors, 'warning')}":
+        return True
+    if want.startswith("warning "):
+        return status != 1 or [f"warning {words}" for *_place, words in notes] != want.split("\n")[:-1]
+    line, column, words = re.fullmatch(r"line (\d+) column (\d+) (.*)\n", want).groups()
+    first = notes[0]
+    # the long report is at the character that is wrong, and says more about it
+    return status != 2 or first[0] != int(line) or first[1] < int(column) or first[2] != "error" or not first[3].startswith(words)
+
+
+def keys_below(path, table):
+    """The paths of all keys whose value is no table."""
+    for key, value in table.items():
+        for at, inner in enumerate(value if key == "page" else [value]):
+            below = (*path, key, at + 1) if key == "page" else (*path, key)
+            if isinstance(inner, dict):
+                yield from keys_below(below, inner)
+            else:
+                yield below
+
+
+def told_at(text, place, words):
+    """The three lines of a long report about a place."""
+    before = text[:place]
+    start = before.rfind("\n") + 1
+    source = re.sub(r"[\x00-\x08\x0b-\x1f\x7f]", "?", text[start:].split("\n")[0])
+    caret = re.sub("[^\t]", " ", before[start:]) + "^"
+    return f"<stdin>:{before.count(chr(10)) + 1}:{place - start + 1}: {words}\n{source}\n{caret}\n"
+
+
+def twice_is_wrong(program, service):
+    """Whether the long report on the service with a key given twice does not tell both places."""
+    text = written(service, random.random() < 0.3, random.choice(list(keys_below((), service))))
+    first, second = text.given
+    want = told_at(text.text, second, "error: this isn't TOML: duplicate key") + told_at(text.text, first, "note: the key is first given here")
+    told = check(program, text.text, "--long")
+    if told == (2, want + "1 error, 0 warnings\n", ""):
+        return False
+    print(f"{text.text}\nwanted {want}\ntold {told}", file=sys.stderr)
+    return True
 
 
 def main():
@@ -371,11 +453,15 @@ def main():
             path, label, words = mistake(service)
             text = written(service, random.random() < 0.3)
             runs.append((text.text, (2, text.line(path, label, words), "")))
+        failed += twice_is_wrong(program, service)
         for given, want in runs:
             told.update(" ".join(line.split()[0:1] + line.split(": ", 1)[-1].split()[:3]) for line in want[1].splitlines())
             if check(program, given) != want:
                 failed += 1
                 print(f"{given}\nwanted {want}\ntold {check(program, given)}", file=sys.stderr)
+            elif long_is_wrong(program, given, want[1]):
+                failed += 1
+                print(f"{given}\nwanted {want}\ntold {check(program, given, '--long', '--strict')}", file=sys.stderr)
     print(f"checked: {count} services, {failed} failed, {len(told)} kinds of lines")
     sys.exit(failed != 0)
 

@@ -98,7 +98,7 @@ def wrong(place, text, way, draw):
     if found[0] != found[1] or found[0][0] != 0:
         return f"find: {found}"
     for number, sub in draw.sample(sorted(wanted["pages"]), min(2, len(wanted["pages"]))):
-        views = [place.run("preview", name, f"{number}/{sub}", "--reveal") for name in ("service", "extracted")]
+        views = [place.run("preview", name, f"{number}/{sub}", "--as", "ansi", "--reveal") for name in ("service", "extracted")]
         if views[0] != views[1] or views[0][0] != 0:
             return f"preview of {number}/{sub}"
     told = place.run("plan", "extracted", "cycle", *way)

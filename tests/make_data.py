@@ -298,6 +298,10 @@ def checked_services():
             '1 = "a row"\n'
             'often = 1\n'
         ),
+        "check-several.toml": (
+            'lines = 33\nserial = true\n[[page]]\nnumber = "1a0"\nsub = "1"\n[page.rows]\n"1" = "Caf\\u00e9 Z\u00fcrich"\nhead = "x"\n'
+            + page.format(100) + 'rows = { "2" = "' + "1234567890" * 5 + '" }\nlinks = ["1FF"]\nlines = 3\n'
+        ),
         "check-serial.toml": "lines = 2\nserial = true\n" + page.format(100) + page.format(101) + page.format(200),
         "check-inline.toml": 'page = [{number = "100", rows = {3 = "A"}}, # two pages\n  {number = "101", links = [\n    "100", "1/0"]}]\n' + head,
     }
@@ -326,6 +330,12 @@ def authors_texts():
         + page.replace("100", "101") + 'option = "frensh"\n' + page.replace("100", "102") + 'option = 7\nhead = "\u00e9"\n',
         "desk-not-toml.toml": "author = 1\n" + head + page + 'head = "Tides\n',
         "desk-again.toml": "author = 1\n" + head + page + page,
+        "desk-within-0.toml": "author = 1\n" + head + page + "within = 0\n",
+        "desk-errors.toml": "author = 1\nlines = 33\nserial = true\nlien = 4\n" + page + "often = 3\n[page.rows]\n25 = \"A\"\n"
+        + page + 'option = 9\nhead = "\u00e9"\n[page.rows]\n1 = "\u00e9"\n'
+        + page.replace("100", "1FF") + 'option = "frensh"\nhead = "\u00e9"\n',
+        "desk-warnings.toml": "author = 1\n" + head + page + 'links = ["200"]\n[page.rows]\ntext = """\n{double}Pounds: £ #\n{red}hidden\n'
+        + '\n  {steady}still\n{box}open"""\n7 = "{red}{steady}x"\n24 = "keys"\n',
         "desk-marked.toml": "author = 2\n" + head + page,
         "desk-not-first.toml": head + "author = 1\n" + page + 'head = "\u00e9"\n',
         "desk-tables.toml": head + page + 'head = "Tides"\n[page.desk]\nby = "Ann"\n',
@@ -523,6 +533,18 @@ def unlike():
     }
 
 
+def delivered():
+    """Sixteen packets as recorders deliver them: behind a framing code, from within a packet on; with clock run-in, and the bits of each byte in
+    reverse order; and from their second byte on."""
+    packets = [header(1, 0), *[text_row(1, number, b"row %d as it is delivered" % number) for number in range(1, 16)]]
+    run_in = b"".join(b"\x55\x55\x27" + packet for packet in packets)
+    return {
+        "framed": b"".join(b"\xe4" + packet for packet in packets)[25:],
+        "run-in-turned": bytes(int(f"{byte:08b}"[::-1], 2) for byte in run_in),
+        "from-byte-1": b"".join(packets)[1:],
+    }
+
+
 def counter(start, slots, deadline, changed=None, choices=(), six=" 0" * 18, code=65, control=128):
     """The text of a counter-run of page 100. The memory is the page's, with an A in the first column of a row, and with links."""
     rows = [f"{code}" + " 32" * 39 if number == changed else "32" + " 32" * 39 for number in range(25)]
@@ -592,6 +614,8 @@ def main():
     for name, slots in files.items():
         (folder / name).write_bytes(b"".join(slots))
     (folder / "83-bytes").write_bytes(b"".join(base())[:83])
+    for name, data in delivered().items():
+        (folder / name).write_bytes(data)
     (folder / "desk-not-utf-8.toml").write_bytes(b"author = 1\nlines = 2\n# caf\xe9\n")
     texts = {
         "base.toml": BASE_TEXT,

@@ -34,9 +34,10 @@ judge() {
 for command in "inspect long.t42" "plan broadcast.toml out" "plan broadcast.toml out --class clearing" \
     "find long.t42 base.toml out" "find long.t42 base.toml out --class clearing" "certify long.t42 base.toml long.cert" \
     "certify long.t42 base.toml clearing.cert" "certify long.t42 base.toml long.cert --late" "certify long.t42 base.toml long.cert --late --numbers" "monitor long.t42 base.toml long.cert long.t42" \
-    "certify long.t42 base.toml long.cert --twice" "refute long.t42 base.toml long.cert" "preview broadcast.toml 130" "receive long.t42 100 --slots 20000" "show long.t42 100 --slots 20000" \
+    "certify long.t42 base.toml long.cert --twice" "refute long.t42 base.toml long.cert" "preview broadcast.toml 130 --as ansi" "preview broadcast.toml --all" "receive long.t42 100 --slots 20000" "show long.t42 100 --slots 20000 --as ansi" \
     "splice long.t42 long.t42 base.toml base.toml long.cert long.cert" \
-    "wait long.t42 base.toml" "send long.t42 --at 61000/000000 --fields 100 --lines 12" "replay long.t42 base.toml long.counter" "pages long.t42" "book long.t42 out" "report long.t42 base.toml long.cert out" "extract long.t42 out --lines 12" "compose harbour.toml out" "decompose broadcast.toml out" "check broadcast.toml"; do
+    "wait long.t42 base.toml" "send long.t42 --at 61000/000000 --fields 100 --lines 12" "replay long.t42 base.toml long.counter" "pages long.t42" "book long.t42 out" "report long.t42 base.toml long.cert out" "extract long.t42 out --lines 12" "compose harbour.toml out" "decompose broadcast.toml out" "check broadcast.toml" \
+    "certify long.t42 base.toml long.cert --json" "wait long.t42 base.toml --json" "check broadcast.toml --long" "check harbour.toml"; do
     finished=0
     refused=0
     rm -f out

@@ -6,7 +6,8 @@ usage: recognised.py PROGRAM [COUNT]
 
 The packets of the shipped example come with a framing code or with clock run-in too, from any byte of a packet on, with the bits of each byte
 in reverse order, with wrong bits, or as no teletext at all. The plain program in this script looks for the first form of whose packets four
-read, and half of those that are not empty, wherever of the slots of 42 bytes not one in ten does.
+read behind their framing code, and half of those that are not empty, wherever of the slots of 42 bytes not one in ten does. Of packets without
+wrong bits it must find the form in which they were delivered.
 """
 import os
 import random
@@ -43,7 +44,16 @@ def counted(data, size, off, turned):
     whole = range(max(len(data) - off, 0) // size)
     packets = [data[off + size * i + size - 42:off + size * (i + 1)] for i in whole]
     packets = [packet.translate(TURNED) if turned else packet for packet in packets]
-    return sum(packet != EMPTY for packet in packets), sum(map(reads, packets))
+    framed = [size == 42 or data[off + size * i + size - 43] in b"\x27\xe4" for i in whole]
+    return sum(packet != EMPTY for packet in packets), sum(map(lambda code, packet: code and reads(packet), framed, packets))
+
+
+def line_of(size, off, turned):
+    """The line for packets of this form."""
+    skip = f"; skip {off} at the start" if off else ""
+    order = "; reverse the bits of each byte" if turned else ""
+    framing = f"; drop the first {size - 42} of each" if size > 42 else ""
+    return f"no slots: packets of {size} bytes{skip}{order}{framing}\n"
 
 
 def line(data):
@@ -57,28 +67,29 @@ def line(data):
             for off in range(size):
                 sent, read = counted(data, size, off, turned)
                 if read >= 4 and sent <= 2 * read:
-                    skip = f"; skip {off} at the start" if off else ""
-                    order = "; reverse the bits of each byte" if turned else ""
-                    framing = f"; drop the first {size - 42} of each" if size > 42 else ""
-                    return f"no slots: packets of {size} bytes{skip}{order}{framing}\n"
+                    return line_of(size, off, turned)
     return "no slots: no teletext\n"
 
 
 def delivered(draw, slots):
-    """Packets from some slot on, in some form."""
+    """Packets from some slot on, in some form, and the line for this form, or None if too few of them come without wrong bits."""
     start, count = draw.randrange(len(slots)), draw.choice([3, 20, 70, 200])
     packets = [slots[(start + n) % len(slots)] for n in range(count)]
     kind = draw.choice(["slots", "framed", "run-in", "noise", "zeros"])
     if kind == "noise":
-        return bytes(draw.randrange(256) for _ in range(42 * count))
+        return bytes(draw.randrange(256) for _ in range(42 * count)), None
     if kind == "zeros":
-        return bytes(42 * count)
+        return bytes(42 * count), None
     before = {"slots": b"", "framed": draw.choice([b"\x27", b"\xe4"]), "run-in": b"\x55\x55\x27"}[kind]
     data = bytearray(b"".join(before + packet for packet in packets))
-    for at in draw.sample(range(len(data)), int(draw.choice([0, 0, 0.02, 0.1, 0.3]) * len(data))):
+    damage = int(draw.choice([0, 0, 0.02, 0.1, 0.3]) * len(data))
+    for at in draw.sample(range(len(data)), damage):
         data[at] ^= 1 << draw.randrange(8)
-    data = bytes(data)[draw.choice([0, 0, draw.randrange(45)]):]
-    return data.translate(TURNED) if draw.random() < 0.4 else data
+    size = 42 + len(before)
+    cut, turned = draw.choice([0, 0, draw.randrange(size)]), draw.random() < 0.4
+    form = line_of(size, -cut % size, turned) if count > 3 and damage == 0 else None
+    data = bytes(data)[cut:]
+    return data.translate(TURNED) if turned else data, form
 
 
 def main():
@@ -101,7 +112,7 @@ def main():
             cycle = file.read()
         slots = [cycle[i:i + 42] for i in range(0, len(cycle), 42)]
         for n in range(count):
-            data = delivered(draw, slots)
+            data, form = delivered(draw, slots)
             with open("feed", "wb") as file:
                 file.write(data)
             # a feed is judged by its whole slots
@@ -112,6 +123,9 @@ def main():
                 failed += 1
                 print(f"feed {n}: {status} {said!r} {every}, not {wanted!r}")
             wanted = line(data)
+            if form is not None and wanted not in ("", form):
+                failed += 1
+                print(f"feed {n}: the plain program says {wanted!r}, not {form!r}")
             for words in (["pages", "feed"], ["show", "feed", "100"], ["book", "feed", "out"], ["extract", "feed", "out", "--lines", "12"]):
                 status, _, errors = told(words)
                 if errors.endswith(wanted) and ("no slots" in errors) == (wanted != "") and (status == 1 or not wanted):

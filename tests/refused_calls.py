@@ -2,7 +2,8 @@
 """Runs the built program while one of its calls of the C library fails: each allocation in turn, and each read and each write, in pieces of
 some bytes. Then the program must end with `fault: memory`, `fault: read` or `fault: write`, and have written only the first bytes of its
 usual output. After a failed allocation it may also do what it does otherwise, but at least one allocation of each command must end in
-`fault: memory`. A command without any allocation, read or write fails the test, except where the table below says so.
+`fault: memory`. A command without any allocation, read or write fails the test, except where the table below says so. `air` goes on where a
+call fails after the first packet, unless it is a write of packets, and notes it in its log.
 
 usage: refused_calls.py PROGRAM
 
@@ -39,15 +40,22 @@ COMMANDS = [
     ("certify small.t42 small.toml small.cert --late", False),
     ("certify small.t42 small.toml small.cert --late --numbers", False),
     ("certify small.t42 small.toml small.cert --twice", False),
+    ("certify small.t42 small.toml early.cert --all --json", False),
     ("refute small.t42 small.toml early.cert", False),
+    ("refute small.t42 small.toml early.cert --json", False),
     ("refute small.t42 small.toml early.cert --save out", False),
     ("replay small.t42 small.toml early.counter", False),
     ("replay base.t42 base.toml base-26.counter", True),
+    ("replay base.t42 base.toml base-26.counter --as text", True),
+    ("replay base.t42 base.toml base-26.counter --as html", True),
     ("replay turned.t42 base.toml base-26.counter", True),
     ("preview small.toml 100", False),
+    ("preview small.toml 100 --as blocks", False),
+    ("preview small.toml --all --as ansi", False),
     ("receive small.t42 100 --slots 12", False),
-    ("show small.t42 100 --slots 12", False),
+    ("show small.t42 100 --slots 12 --as ansi", False),
     ("wait small.t42 small.toml", False),
+    ("wait small.t42 small.toml --json", False),
     ("wait small.t42 small.toml --repeat 8 --class clearing", False),
     ("send small.t42 --at 61000/235959 --fields 3 --lines 2 --phase 1", False),
     ("monitor small.t42 small.toml small.cert small.t42", False),
@@ -56,6 +64,9 @@ COMMANDS = [
     ("compose desk.toml out", False),
     ("decompose small.toml out", False),
     ("check small.toml", False),
+    ("check check-several.toml --long", True),
+    ("check desk-errors.toml", True),
+    ("check desk-warnings.toml --long --strict", True),
     ("version", False),
     ("report small.t42 small.toml small.cert out", False),
     ("splice small.t42 small.t42 small.toml small.toml small.cert small.cert", False),
@@ -83,6 +94,11 @@ COMMANDS = [
     ("certify missing base.toml base.cert", True),
     ("find base.t42", True),
     ("--help", True),
+    ("air small.toml --within 1 --at 61000/235959 --fields 9", False),
+    ("air small.toml --within 1 --at 61000/235959 --fields 9 --at-once --spread --log out", True),
+    ("air desk.toml --within 1 --at 61000/235959 --fields 9", True),
+    ("air desk-mistakes.toml --within 1 --fields 9", True),
+    ("air desk-errors.toml --within 1 --fields 9", True),
 ]
 
 
@@ -98,7 +114,7 @@ def make_inputs(folder):
     for name, source in taken.items():
         shutil.copy(data / source, folder / name)
     for name in ("base.t42", "base.toml", "base.cert", "often-3.toml", "base-26.counter", "check-misspelt.toml", "check-row-of-47.toml",
-                 "desk.toml", "desk-composed.toml", "desk-mistakes.toml"):
+                 "check-several.toml", "desk.toml", "desk-composed.toml", "desk-errors.toml", "desk-mistakes.toml", "desk-warnings.toml"):
         shutil.copy(data / name, folder)
     shutil.copy(TOP / "examples/broadcast.toml", folder)
     head = "lines 2\nrepeat 1\ndeadline"
@@ -177,6 +193,57 @@ class Runs:
         return writes
 
 
+class AirRuns(Runs):
+    """Runs of `air`, which goes on when it looks at its text and has no memory, or cannot read it; or when its log fails."""
+
+    def is_kept(self, ample, answer, words):
+        """Whether all packets went out, and the log has one line more, with these words."""
+        kept = [line for line in answer[2].splitlines(keepends=True) if b" kept" in line and line.endswith(words)]
+        return answer[:2] == ample[:2] and len(kept) == 1 and answer[2].replace(kept[0], b"") == ample[2]
+
+    def is_ended(self, ample, answer, words):
+        """Whether no packets went out, and the log has the beginning of what it has otherwise, and then these words."""
+        return answer[:2] == (3, b"") and answer[2].endswith(words) and ample[2].startswith(answer[2].removesuffix(words))
+
+    def refuse_growths(self):
+        ample, (growths, _, _) = self.counted()
+        told = 0
+        for n in range(1, growths + 2):
+            answer = self.run(growth=n)
+            is_told = self.is_ended(ample, answer, b"fault: memory\n")
+            told += is_told
+            is_right = answer == ample or is_told or self.is_kept(ample, answer, b": out of memory\n")
+            self.expect(is_right and (n <= growths or answer == ample), answer, f"growth {n} of {growths}")
+        self.expect(told > 0, ample, f"none of {growths} growths ends in fault: memory")
+        return growths, told
+
+    def fail_reads(self, ample, piece):
+        answer, (_, reads, _) = self.counted(piece=piece)
+        self.expect(answer == ample, answer, f"pieces of {piece}")
+        kept = 0
+        for n in range(1, reads + 1):
+            answer = self.run(piece=piece, read=n)
+            is_kept = self.is_kept(ample, answer, b" kept: the text cannot be read\n")
+            kept += is_kept
+            self.expect(is_kept or self.is_ended(ample, answer, b"fault: read\n"), answer, f"pieces of {piece}, read {n} of {reads}")
+        self.expect(0 < kept < reads, answer, f"{kept} of {reads} reads leave the pages on the air")
+        return reads
+
+    def fail_writes(self, ample, piece):
+        _, stdout, log, _ = ample
+        _, (_, _, writes) = self.counted(piece=piece)
+        sent = set()
+        for n in range(1, writes + 1):
+            answer = self.run(piece=piece, write=n)
+            is_short = answer[0] == 3 and answer[2].endswith(b"fault: write\n") and stdout.startswith(answer[1]) and len(answer[1]) % piece == 0
+            is_cut = answer[:2] == ample[:2] and len(answer[2]) < len(log)
+            if is_short:
+                sent.add(len(answer[1]))
+            self.expect(is_short or is_cut, answer, f"pieces of {piece}, write {n} of {writes}")
+        self.expect(sent == set(range(0, len(stdout), piece)), ample, f"failed writes of packets after {sorted(sent)} bytes")
+        return writes
+
+
 def build(folder):
     kit = Path(os.path.realpath(shutil.which("rt"))).parent.parent
     words = [kit / "toolchain/bin/clang", "-O1", "-shared", "-fPIC", "-nostdlib", "-o", folder / "refusing.so", TOP / "tests/refusing.c"]
@@ -185,7 +252,7 @@ def build(folder):
 
 def refuse_all(program, folder, words, growths_alone):
     """All runs of one command in a folder of its own: how many allocations, `fault: memory` answers, reads and writes there were."""
-    runs = Runs(program, folder, words)
+    runs = (AirRuns if words.startswith("air ") else Runs)(program, folder, words)
     growths, told = runs.refuse_growths()
     ample = runs.run()
     pieces = () if growths_alone else PIECES

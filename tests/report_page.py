@@ -12,7 +12,7 @@ STYLE = (
 )
 DECODERS = (
     ("shows each row as it comes", "yes"),
-    ("shows a page when the next one ends it, as most software decoders do", "only by certify --late"),
+    ("shows a page when the next one ends it, as libzvbi does", "only by certify --late"),
     (
         "refuses a row with a wrong byte whole, or loses rows",
         "if one of K successive transmissions of a row arrives whole, K being the repeat count",

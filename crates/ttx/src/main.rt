@@ -14,10 +14,10 @@ use ttx_arguments::{Order, WordsFault, words};
 use ttx_cycle::Counted;
 use ttx_tool::{ToolFault, commands};
 
-// The status of refused words.
+// The status of refused arguments.
 const REFUSED: u8 = 2;
 
-// Runs an order, and answers the status of the program.
+// Runs an order, and returns the status of the program.
 fn execute(rt: &HostRuntime, order: &Order<'_>) -> u8 {
     match run_order(rt, order) {
         Ok(status) => status,
@@ -25,7 +25,7 @@ fn execute(rt: &HostRuntime, order: &Order<'_>) -> u8 {
     }
 }
 
-// Says why words are refused: help on standard output, all else on standard error.
+// Reports why arguments are refused: help on standard output, everything else on standard error.
 fn refuse(rt: &HostRuntime, fault: &WordsFault) -> Result<u8, ToolFault> {
     let shows_help = match fault {
         WordsFault::Refused(error) => !error.use_stderr(),
@@ -40,7 +40,7 @@ fn refuse(rt: &HostRuntime, fault: &WordsFault) -> Result<u8, ToolFault> {
     }
 }
 
-// Says why the words can't be had, and answers the status: they aren't all UTF-8, or memory is wanting.
+// Reports why the arguments cannot be read, and returns the status: one is not UTF-8, or memory ran out.
 fn words_fault(rt: &HostRuntime, error: &io::Error) -> u8 {
     match error.kind() {
         io::ErrorKind::InvalidData => {

@@ -1,25 +1,25 @@
-//! What a fault says on standard error, and the status that it has.
+//! The line of a fault on standard error, and the status of the program after it.
 
 use ttx_cycle::Counted;
 use ttx_files::FilesFault;
 use ttx_tool::{AirRefusal, ToolFault, commands};
 
-// The status of a fault, also where standard error takes no line.
+// The status of a fault, also if the line cannot be written.
 const FAULT: u8 = 3;
 
-/// Says that a file can't be opened, and answers the status.
+/// Reports that a file cannot be opened, and returns the status.
 pub fn file_fault(rt: &HostRuntime) -> u8 {
     let _ = rt.eprintln("fault: file");
     FAULT
 }
 
-/// Says that memory is wanting, with no growth, and answers the status.
+/// Reports that memory ran out, without allocating, and returns the status.
 pub fn memory_fault(rt: &HostRuntime) -> u8 {
     let _ = rt.eprintln("fault: memory");
     FAULT
 }
 
-/// Reports a fault of a command, and answers the status.
+/// Reports a fault of a command, and returns the status.
 pub fn report(rt: &HostRuntime, fault: &ToolFault) -> u8 {
     let mut errors = Counted::new(rt.stderr());
     match commands::report_fault(rt.alloc(), fault, &mut errors) {
@@ -29,7 +29,7 @@ pub fn report(rt: &HostRuntime, fault: &ToolFault) -> u8 {
     }
 }
 
-/// Says why nothing is sent, and answers the status.
+/// Reports why nothing is sent, and returns the status.
 pub fn report_refusal(rt: &HostRuntime, refusal: AirRefusal) -> u8 {
     let mut errors = Counted::new(rt.stderr());
     match commands::report_air(refusal, &mut errors) {
@@ -38,7 +38,7 @@ pub fn report_refusal(rt: &HostRuntime, refusal: AirRefusal) -> u8 {
     }
 }
 
-/// Says that a text is no date, and answers the status.
+/// Reports that a text is not a date, and returns the status.
 pub fn report_no_date(rt: &HostRuntime) -> u8 {
     let mut errors = Counted::new(rt.stderr());
     match commands::report::refuse_date(&mut errors) {
@@ -47,7 +47,7 @@ pub fn report_no_date(rt: &HostRuntime) -> u8 {
     }
 }
 
-/// The status of what a command answers, whose fault is reported.
+/// The status of a command's result. A fault is reported.
 pub fn status_of(rt: &HostRuntime, outcome: Result<u8, ToolFault>) -> u8 {
     match outcome {
         Ok(status) => status,

@@ -20,24 +20,24 @@ use ttx_cycle::Counted;
 use ttx_reasons::REASONS;
 use ttx_tool::{ToolFault, commands};
 
-// The status of a command, whose fault has been reported. An error is that of a file that can't be opened.
+// The status of a command, whose fault has been reported. An error is that of a file that cannot be opened.
 type Outcome = io::Result<u8>;
 
-// Tells which program this is.
+// Writes the version, the kit and the logic.
 fn version(rt: &HostRuntime) -> Result<u8, ToolFault> {
     let mut writer = Counted::new(io::writer(rt));
     commands::version::run(&mut writer).map(|()| 0)
 }
 
-// Says what a reason means; of a word that is none, standard error has the nearest one.
+// Explains a reason. If a word is not one, standard error gets the nearest reason.
 fn explain(rt: &HostRuntime, reason: &str) -> Result<u8, ToolFault> {
     let mut writer = Counted::new(io::writer(rt));
     let mut errors = Counted::new(rt.stderr());
     commands::explain::run(rt.alloc(), &REASONS, reason, &mut writer, &mut errors)
 }
 
-/// Opens the inputs in the order of the arguments, makes the output file anew where it is none of them, and runs the command. An
-/// error is that of a file that can't be opened.
+/// Opens the inputs in the order of the arguments, makes the output file anew unless it is an input, and runs the command. An
+/// error is that of a file that cannot be opened.
 pub fn run_order(rt: &HostRuntime, order: &Order<'_>) -> Outcome {
     match order {
         Order::Inspect { file } => cycles::inspect(rt, file),
@@ -57,6 +57,7 @@ pub fn run_order(rt: &HostRuntime, order: &Order<'_>) -> Outcome {
             selection,
             look,
         } => screens::preview(rt, service, selection, look),
+        Order::PreviewAll { service, look } => screens::preview_all(rt, service, look),
         Order::Splice(order) => splices::splice(rt, order),
         Order::Wait(order) => certificates::wait(rt, order),
         Order::Send(order) => sends::send(rt, order),
@@ -69,7 +70,7 @@ pub fn run_order(rt: &HostRuntime, order: &Order<'_>) -> Outcome {
         Order::Pages { cycle, json } => cycles::pages(rt, cycle, *json),
         Order::Book { cycle, out } => cycles::book(rt, cycle, out),
         Order::Extract { cycle, out, lines } => cycles::extract(rt, cycle, out, lines.count()),
-        Order::Check { service } => services::check(rt, service),
+        Order::Check(order) => services::check(rt, order),
         Order::Version => Ok(status_of(rt, version(rt))),
     }
 }

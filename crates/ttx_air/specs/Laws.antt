@@ -47,7 +47,7 @@ SeenFromAir slots o first later has written air =
     (tau +ℤ pos (length received)) ≤ℤ ((has.next -ℤ pos (length slots)) +ℤ pos (written / 42)) →
     IsStillOn later to (tau +ℤ pos (length received)) → Run Any first.certificate.lines sel former received m → HasView p m
 
--- the same of what a receiver shows that shows a page late, `gap` slots later
+-- the same for what a receiver shows that shows a page late, `gap` slots later
 abbrev pub ShownFromAir : (slots : List (List ℕ)) (o : OnAir) (first : Edition) (later : List Showing) → HasSent slots o first later → ℕ → Stream → ℕ →
     Type 0
 ShownFromAir slots o first later has written air gap =

@@ -5,7 +5,7 @@
 --   Tick, tick_at, tick     a field, and the moment at which it is sent
 --   field_text, at_field    the field before which something happens, with the time that the clock shows
 --   reason_line             why a next edition does not take over, as `splice` says it
---   edition_text, change_text       what is said of a first edition, and of a change
+--   edition_text, change_text       the words about a first edition, and about a change
 --   first_line, changed_line, kept_line, end_line   the lines of the log
 --   ending_line, lines_of   the line of an ending, and of many
 use Rattle.std.specs.Prelude.{ℕ, ◌+◌, ◌*◌, ◌/◌, ◌%◌, ◌==◌, Bool, ◌||◌, false, if◌then◌else◌, List, [], ◌∷◌, ◌++◌, length, codes}

@@ -1,7 +1,7 @@
--- What a newsroom answers.
+-- What a newsroom returns.
 --
 --   Candidate, candidate_of         an edition that may be put on the air, and its mark in the log
---   News, news_of                   nothing, a next edition, or a text that is none, and why; want of memory is such a reason
+--   News, news_of                   nothing, a next edition, or why a text has none, such as lack of memory
 use Rattle.std.specs.Prelude.{ℕ, List, codes, string_bytes}
 use Rattle.ttx_playout.specs.Schedules.{Edition}
 use Rattle.ttx_playout.specs.Takeovers.{edition_of}

@@ -1,15 +1,15 @@
-//! What a newsroom answers.
+//! What a newsroom returns.
 
 use ttx_playout::Edition;
 
-/// An edition that may be put on the air, and its mark: bytes, such as a space and a digest of its text, by which the log tells it from others.
+/// An edition that may be put on the air, and its mark: bytes that identify it in the log, such as a space and a digest of its text.
 #[derive(Drop)]
 pub struct Candidate {
     pub edition: Edition,
     pub mark: String,
 }
 
-/// What a newsroom answers.
+/// What a newsroom returns.
 #[derive(Drop)]
 pub enum News {
     /// There is nothing new.

@@ -19,7 +19,7 @@ use Rattle.ttx_arguments.specs.Orders.{OrderView, Unfit, inspect_order, version_
 use Rattle.ttx_arguments.specs.Orders.{AnswersBy, IsFaultOf, IsSettled}
 use Rattle.ttx_arguments.specs.declared.orders.Order.{Order}
 use Rattle.ttx_arguments.specs.declared.orders.WordsFault.{WordsFault}
-use Rattle.ttx_arguments.specs.declared.orders.WordsFault.TheVariants.{Refused, Page, Time, Seconds, Deadlines, Within, Numbers, Clocks, Twice, NoMemory, Apart}
+use Rattle.ttx_arguments.specs.declared.orders.WordsFault.TheVariants.{Refused, Page, Time, Seconds, Deadlines, Within, Numbers, Clocks, Twice, NoMemory, Apart, Forms}
 
 pub ttx_is_simple : (names : Names) → is_simple (ttx_app names) ≡ true
 unfolding ttx_app
@@ -45,6 +45,7 @@ refusal Numbers e kinds f h = f
 refusal Clocks e kinds f h = f
 refusal Twice e kinds f h = f
 refusal (Apart conflict) e kinds f h = f
+refusal Forms e kinds f h = f
 refusal NoMemory e kinds f h = tt
 
 -- no words ask for `inspect -`
@@ -83,6 +84,7 @@ answered app words answer (Err Numbers) some by is = asked app words _ some (sub
 answered app words answer (Err Clocks) some by is = asked app words _ some (subst (λ (a : Result OrderView Unfit). AsksByCommand app words a) is by)
 answered app words answer (Err Twice) some by is = asked app words _ some (subst (λ (a : Result OrderView Unfit). AsksByCommand app words a) is by)
 answered app words answer (Err (Apart conflict)) some by is = asked app words _ some (subst (λ (a : Result OrderView Unfit). AsksByCommand app words a) is by)
+answered app words answer (Err Forms) some by is = asked app words _ some (subst (λ (a : Result OrderView Unfit). AsksByCommand app words a) is by)
 answered app words answer (Err (Refused error)) some by is = absurd is
 answered app words answer (Err NoMemory) some by is = absurd is
 
@@ -101,6 +103,7 @@ refused app words (Refused error) (Err Numbers) some h is = absurd is
 refused app words (Refused error) (Err Clocks) some h is = absurd is
 refused app words (Refused error) (Err Twice) some h is = absurd is
 refused app words (Refused error) (Err (Apart conflict)) some h is = absurd is
+refused app words (Refused error) (Err Forms) some h is = absurd is
 refused app words (Refused error) (Err NoMemory) some h is = absurd is
 refused app words Page result some h is = absurd h
 refused app words Time result some h is = absurd h
@@ -111,6 +114,7 @@ refused app words Numbers result some h is = absurd h
 refused app words Clocks result some h is = absurd h
 refused app words Twice result some h is = absurd h
 refused app words (Apart conflict) result some h is = absurd h
+refused app words Forms result some h is = absurd h
 refused app words NoMemory (Err NoMemory) some h is = tt
 refused app words NoMemory (Ok order) some h is = absurd is
 refused app words NoMemory (Err (Refused e)) some h is = absurd is
@@ -123,6 +127,7 @@ refused app words NoMemory (Err Numbers) some h is = absurd is
 refused app words NoMemory (Err Clocks) some h is = absurd is
 refused app words NoMemory (Err Twice) some h is = absurd is
 refused app words NoMemory (Err (Apart conflict)) some h is = absurd is
+refused app words NoMemory (Err Forms) some h is = absurd is
 
 -- ---- words without a fault name a command
 

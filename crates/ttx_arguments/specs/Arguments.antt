@@ -36,6 +36,7 @@ id_of argument.NewCertificate = codes "new_certificate"
 id_of argument.Class = codes "class"
 id_of argument.Kind = codes "kind"
 id_of argument.Form = codes "as"
+id_of argument.ReplayForm = codes "as"
 id_of argument.Repeat = codes "repeat"
 id_of argument.Lines = codes "lines"
 id_of argument.NeededLines = codes "lines"
@@ -79,12 +80,17 @@ id_of argument.Json = codes "json"
 id_of argument.MonitorAll = codes "all"
 id_of argument.CertifyAll = codes "all"
 id_of argument.Rows = codes "rows"
+id_of argument.SomePage = codes "page"
+id_of argument.PreviewAll = codes "all"
+id_of argument.Long = codes "long"
+id_of argument.Strict = codes "strict"
 
 -- Ranges of numbers are inclusive.
 abbrev pub takes_of : Argument → Takes
 takes_of argument.Class = takes.Class
 takes_of argument.Kind = takes.Kind
 takes_of argument.Form = takes.Form
+takes_of argument.ReplayForm = takes.ReplayForm
 takes_of argument.Repeat = takes.Number 1 8
 takes_of argument.Lines = takes.Number 1 32
 takes_of argument.NeededLines = takes.Number 1 32
@@ -122,9 +128,13 @@ takes_of argument.Json = takes.Nothing
 takes_of argument.MonitorAll = takes.Nothing
 takes_of argument.CertifyAll = takes.Nothing
 takes_of argument.Rows = takes.Nothing
+takes_of argument.SomePage = takes.Optional
+takes_of argument.PreviewAll = takes.Nothing
+takes_of argument.Long = takes.Nothing
+takes_of argument.Strict = takes.Nothing
 takes_of _ = takes.Operand
 
--- an operand always has to be there
+-- an operand has to be there unless it is optional
 abbrev pub is_needed : Argument → Bool
 is_needed argument.NeededLines = true
 is_needed argument.AirWithin = true
@@ -180,17 +190,17 @@ arguments_of command.Find =
     argument.Cycle ∷ argument.Service ∷ argument.Found ∷ argument.Repeat ∷ argument.Class ∷ argument.Deadline ∷ argument.Within ∷ []
 arguments_of command.Certify =
     argument.Cycle ∷ argument.Service ∷ argument.Certificate ∷ argument.Late ∷ argument.Numbers ∷ argument.Twice ∷ argument.Within
-    ∷ argument.CertifyAll ∷ []
-arguments_of command.Refute = argument.Cycle ∷ argument.Service ∷ argument.Certificate ∷ argument.Save ∷ []
-arguments_of command.Replay = argument.Cycle ∷ argument.Service ∷ argument.Counter ∷ []
+    ∷ argument.CertifyAll ∷ argument.Json ∷ []
+arguments_of command.Refute = argument.Cycle ∷ argument.Service ∷ argument.Certificate ∷ argument.Save ∷ argument.Json ∷ []
+arguments_of command.Replay = argument.Cycle ∷ argument.Service ∷ argument.Counter ∷ argument.ReplayForm ∷ []
 arguments_of command.Receive = argument.Cycle ∷ argument.Page ∷ argument.Lines ∷ argument.Start ∷ argument.Slots ∷ argument.Kind ∷ []
 arguments_of command.Show =
     argument.Cycle ∷ argument.Page ∷ argument.Lines ∷ argument.Start ∷ argument.Slots ∷ argument.Kind ∷ argument.Form ∷ argument.Reveal ∷ []
-arguments_of command.Preview = argument.Service ∷ argument.Page ∷ argument.Form ∷ argument.Reveal ∷ []
+arguments_of command.Preview = argument.Service ∷ argument.SomePage ∷ argument.PreviewAll ∷ argument.Form ∷ argument.Reveal ∷ []
 arguments_of command.Splice =
     argument.Old ∷ argument.New ∷ argument.OldService ∷ argument.NewService ∷ argument.OldCertificate ∷ argument.NewCertificate ∷ argument.Sent ∷ argument.SplicedLate ∷ []
 arguments_of command.Wait =
-    argument.Cycle ∷ argument.Service ∷ argument.Repeat ∷ argument.Class ∷ argument.Items ∷ argument.WaitNumbers ∷ []
+    argument.Cycle ∷ argument.Service ∷ argument.Repeat ∷ argument.Class ∷ argument.Items ∷ argument.WaitNumbers ∷ argument.Json ∷ []
 arguments_of command.Send =
     argument.Cycle ∷ argument.At ∷ argument.Fields ∷ argument.NeededLines ∷ argument.Phase ∷ argument.Offset ∷ argument.Zone ∷ argument.Force ∷ []
 arguments_of command.Monitor =
@@ -199,7 +209,7 @@ arguments_of command.Monitor =
 arguments_of command.Pages = argument.Cycle ∷ argument.Json ∷ []
 arguments_of command.Book = argument.Cycle ∷ argument.Book ∷ []
 arguments_of command.Extract = argument.Cycle ∷ argument.Extracted ∷ argument.NeededLines ∷ []
-arguments_of command.Check = argument.Service ∷ []
+arguments_of command.Check = argument.Service ∷ argument.Long ∷ argument.Strict ∷ []
 arguments_of command.Version = []
 arguments_of command.Air =
     argument.Watched ∷ argument.AirWithin ∷ argument.Repeat ∷ argument.AirAt ∷ argument.Zone ∷ argument.Offset ∷ argument.AirFields

@@ -1,9 +1,9 @@
--- Arguments of a command that do not go together (profile).
+-- Arguments of a command that cannot be combined (profile).
 --
 --   conflicts_of             the conflicts of a command, in the order in which they are looked at
 --   is_there, is_met         whether an argument is given, and whether both of a conflict are
 --   conflict_in, conflict_at the first of some conflicts, and of a command's, that is met
---   label_of, conflict_line  an option as it is written, and the line of a refusal
+--   label_of, conflict_line  an option as it is written, or PAGE, and the line of a refusal
 use Rattle.std.specs.Prelude.{Bool, ◌&&◌, is_some, List, [], ◌∷◌, ◌++◌, Option, Some, None, codes, if◌then◌else◌}
 use Rattle.clap.specs.Words.{Row, Text}
 use Rattle.ttx_arguments.specs.Arguments.{id_of, takes_of}
@@ -22,8 +22,10 @@ apart one other = record { one = one; other = other }
 abbrev pub conflicts_of : CommandName → List Conflict
 conflicts_of command.Certify =
     apart argument.CertifyAll argument.Late ∷ apart argument.CertifyAll argument.Numbers ∷ apart argument.CertifyAll argument.Twice
-    ∷ apart argument.CertifyAll argument.Within ∷ []
+    ∷ apart argument.CertifyAll argument.Within ∷ apart argument.Json argument.Numbers ∷ apart argument.Json argument.Twice ∷ []
+conflicts_of command.Wait = apart argument.Json argument.Items ∷ apart argument.Json argument.WaitNumbers ∷ []
 conflicts_of command.Monitor = apart argument.Rows argument.MonitorAll ∷ apart argument.Rows argument.Every ∷ []
+conflicts_of command.Preview = apart argument.PreviewAll argument.SomePage ∷ []
 conflicts_of command.Air = apart argument.AirLate argument.AtOnce ∷ []
 conflicts_of _ = []
 
@@ -45,6 +47,7 @@ abbrev pub conflict_at : CommandName → List Row → Option Conflict
 conflict_at command rows = conflict_in (conflicts_of command) rows
 
 abbrev pub label_of : Argument → Text
+label_of argument.SomePage = codes "PAGE"
 label_of argument = codes "--" ++ id_of argument
 
 abbrev pub conflict_line : Conflict → Text

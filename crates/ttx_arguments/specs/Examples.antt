@@ -8,21 +8,27 @@
 --   RepeatWords              a number at the end of its range, and one beyond it
 --   SpliceWords, WaitWords   a number that need not be there; options without a value
 --   MonitorWords             a slot that need not be there, and two inputs that are standard input
+--   RefuteWords              an option with a value beside one without
+--   PreviewWords, CheckWords an operand that need not be there, in whose place an option is; options without a value
 --   ExplainWords             an operand that names no file; an option of one command, and no other
---   AirWords, ComposeWords   when nothing is said of the time, the end and the receivers; an input and an output that are standard streams
+--   ReplayWords              names of one command, and the one that is meant if none is given
+--   AirWords, ComposeWords   the defaults of time, end and receivers; an input and an output that are standard streams
 --   TwiceWords               standard input for two inputs, and for a cycle that is read twice
 use Rattle.std.specs.Prelude.{◌≡◌, ℕ, pos, negsuc, Bool, List, [], ◌∷◌, ◌++◌, Option, Some, None, Ok, Err, codes, true, false}
 use Rattle.clap.specs.Words.{Text, fault_of}
 use Rattle.clap.specs.declared.error.kind.ErrorKind.TheVariants.{DisplayVersion, MissingRequiredArgument, ValueValidation}
 use Rattle.ttx_page.specs.declared.class.Class.TheVariants.{Any}
 use Rattle.ttx_arguments.specs.Grammar.{ttx_app}
-use Rattle.ttx_arguments.specs.Orders.{Asks, OrderView, certify_order, find_order, monitor_order, plan_order, send_order, splice_order, wait_order, no_time, two_clocks, no_seconds, two_deadlines, within_and_more, numbers_unfit, named_twice, apart, explain_order, pages_order}
-use Rattle.ttx_arguments.specs.Orders.{air_order, compose_order}
+use Rattle.ttx_arguments.specs.Orders.{Asks, OrderView, certify_order, find_order, monitor_order, plan_order, send_order, splice_order, wait_order, no_time, two_clocks, no_seconds, two_deadlines, within_and_more, numbers_unfit, named_twice, apart, explain_order, pages_order, refute_order}
+use Rattle.ttx_arguments.specs.Orders.{air_order, check_order, compose_order, preview_all_order, preview_order, replay_order, no_page}
+use Rattle.ttx_page.specs.declared.selection.Selection.TheVariants.{AnySub}
+use Rattle.ttx_picture.specs.declared.forms.Form.TheVariants as form
 use Rattle.ttx_arguments.specs.Seconds.{fields_of}
 use Rattle.ttx_arguments.specs.Timings.{StartView, start_now, start_utc, start_text, ClockView, clock_ahead, clock_in}
 use Rattle.ttx_arguments.specs.declared.arguments.Argument.TheVariants as argument
 use Rattle.ttx_arguments.specs.Conflicts as conflicts
 use Rattle.ttx_arguments.specs.declared.grammar.Names.{Names}
+use Rattle.ttx_arguments.specs.declared.orders.ReplayForm.TheVariants as shown
 
 abbrev pub VersionWords : Type 0
 VersionWords =
@@ -33,7 +39,7 @@ abbrev certify_texts : List Text
 certify_texts = codes "certify" ∷ codes "c" ∷ codes "s" ∷ codes "k" ∷ []
 
 abbrev certified : Bool → Bool → Option ℕ → OrderView
-certified late numbers within = certify_order (codes "c") (codes "s") (codes "k") late numbers false within false
+certified late numbers within = certify_order (codes "c") (codes "s") (codes "k") late numbers false within false false
 
 abbrev pub CertifyWords : Type 0
 CertifyWords =
@@ -46,8 +52,11 @@ CertifyWords =
     × Asks (ttx_app names) (certify_texts ++ codes "--numbers" ∷ []) (Err numbers_unfit)
     × Asks (ttx_app names) (certify_texts ++ codes "--late" ∷ codes "--numbers" ∷ codes "--twice" ∷ []) (Err numbers_unfit)
     × Asks (ttx_app names) (certify_texts ++ codes "--late" ∷ codes "--numbers" ∷ codes "--within" ∷ codes "1" ∷ []) (Err numbers_unfit)
-    × Asks (ttx_app names) (certify_texts ++ codes "--all" ∷ []) (Ok (certify_order (codes "c") (codes "s") (codes "k") false false false None true))
+    × Asks (ttx_app names) (certify_texts ++ codes "--all" ∷ []) (Ok (certify_order (codes "c") (codes "s") (codes "k") false false false None true false))
     × Asks (ttx_app names) (certify_texts ++ codes "--all" ∷ codes "--within=1" ∷ []) (Err (apart (conflicts.apart argument.CertifyAll argument.Within)))
+    × Asks (ttx_app names) (certify_texts ++ codes "--all" ∷ codes "--json" ∷ [])
+    (Ok (certify_order (codes "c") (codes "s") (codes "k") false false false None true true))
+    × Asks (ttx_app names) (certify_texts ++ codes "--json" ∷ codes "--twice" ∷ []) (Err (apart (conflicts.apart argument.Json argument.Twice)))
 
 abbrev send_texts : Text → List Text
 send_texts at = codes "send" ∷ codes "c" ∷ codes "--at" ∷ at ∷ codes "--fields" ∷ codes "3" ∷ codes "--lines" ∷ codes "12" ∷ []
@@ -127,7 +136,7 @@ abbrev wait_texts : List Text
 wait_texts = codes "wait" ∷ codes "c" ∷ codes "s" ∷ []
 
 abbrev waited : Bool → Bool → OrderView
-waited items numbers = wait_order (codes "c") (codes "s") 1 Any items numbers
+waited items numbers = wait_order (codes "c") (codes "s") 1 Any items numbers false
 
 abbrev pub WaitWords : Type 0
 WaitWords =
@@ -135,6 +144,17 @@ WaitWords =
     × Asks (ttx_app names) (wait_texts ++ codes "--items" ∷ []) (Ok (waited true false))
     × Asks (ttx_app names) (wait_texts ++ codes "--numbers" ∷ []) (Ok (waited false true))
     × Asks (ttx_app names) (wait_texts ++ codes "--numbers" ∷ codes "--items" ∷ []) (Ok (waited true true))
+    × Asks (ttx_app names) (wait_texts ++ codes "--json" ∷ []) (Ok (wait_order (codes "c") (codes "s") 1 Any false false true))
+    × Asks (ttx_app names) (wait_texts ++ codes "--items" ∷ codes "--json" ∷ []) (Err (apart (conflicts.apart argument.Json argument.Items)))
+
+abbrev refute_texts : List Text
+refute_texts = codes "refute" ∷ codes "c" ∷ codes "s" ∷ codes "k" ∷ []
+
+abbrev pub RefuteWords : Type 0
+RefuteWords =
+    (names : Names) → Asks (ttx_app names) refute_texts (Ok (refute_order (codes "c") (codes "s") (codes "k") None false))
+    × Asks (ttx_app names) (refute_texts ++ codes "--json" ∷ codes "--save=o" ∷ [])
+    (Ok (refute_order (codes "c") (codes "s") (codes "k") (Some (codes "o")) true))
 
 abbrev monitor_texts : List Text
 monitor_texts = codes "monitor" ∷ codes "c" ∷ codes "s" ∷ codes "k" ∷ codes "-" ∷ []
@@ -152,11 +172,33 @@ MonitorWords =
     × Asks (ttx_app names) (codes "monitor" ∷ codes "-" ∷ codes "s" ∷ codes "k" ∷ codes "-" ∷ []) (Err named_twice)
     × (fault_of (ttx_app names) (monitor_texts ++ codes "--start=65536" ∷ []) ≡ ValueValidation ∷ [])
 
+abbrev pub PreviewWords : Type 0
+PreviewWords =
+    (names : Names) → Asks (ttx_app names) (codes "preview" ∷ codes "s" ∷ codes "100" ∷ [])
+    (Ok (preview_order (codes "s") (AnySub 1 0) (record { page = codes "100"; form = form.Ansi; given = false; reveal = false })))
+    × Asks (ttx_app names) (codes "preview" ∷ codes "s" ∷ codes "--all" ∷ codes "--reveal" ∷ [])
+    (Ok (preview_all_order (codes "s") (record { page = []; form = form.Ansi; given = false; reveal = true })))
+    × Asks (ttx_app names) (codes "preview" ∷ codes "s" ∷ []) (Err no_page)
+    × Asks (ttx_app names) (codes "preview" ∷ codes "s" ∷ codes "100" ∷ codes "--all" ∷ [])
+    (Err (apart (conflicts.apart argument.PreviewAll argument.SomePage)))
+
+abbrev pub CheckWords : Type 0
+CheckWords =
+    (names : Names) → Asks (ttx_app names) (codes "check" ∷ codes "s" ∷ []) (Ok (check_order (codes "s") false false))
+    × Asks (ttx_app names) (codes "check" ∷ codes "s" ∷ codes "--long" ∷ []) (Ok (check_order (codes "s") true false))
+    × Asks (ttx_app names) (codes "check" ∷ codes "s" ∷ codes "--strict" ∷ []) (Ok (check_order (codes "s") false true))
+
 abbrev pub ExplainWords : Type 0
 ExplainWords =
     (names : Names) → Asks (ttx_app names) (codes "explain" ∷ codes "late" ∷ []) (Ok (explain_order (codes "late")))
     × Asks (ttx_app names) (codes "pages" ∷ codes "c" ∷ codes "--json" ∷ []) (Ok (pages_order (codes "c") true))
     × Asks (ttx_app names) (codes "pages" ∷ codes "c" ∷ []) (Ok (pages_order (codes "c") false))
+
+abbrev replay_texts : List Text
+replay_texts = codes "replay" ∷ codes "c" ∷ codes "s" ∷ codes "r" ∷ []
+
+abbrev pub ReplayWords : Type 0
+ReplayWords = (names : Names) → Asks (ttx_app names) replay_texts (Ok (replay_order (codes "c") (codes "s") (codes "r") shown.Words))
 
 abbrev air_texts : List Text
 air_texts = codes "air" ∷ codes "s" ∷ codes "--within" ∷ codes "20" ∷ []

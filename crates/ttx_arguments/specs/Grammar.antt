@@ -1,8 +1,8 @@
--- The command line as `clap` reads it, made from the table of commands: what is taken, and the faults of what isn't.
+-- The command line as `clap` reads it, made from the table of commands: what is accepted, and the faults of what is not.
 --
 --   AreNames, HasNames       names as `clap` holds them, wherever they lie in memory
---   kind_names, class_names, form_names      the names that `--kind`, `--class` and `--as` take
---   operand_rule, flag_rule  an operand, which has to be there, and an option without a value
+--   kind_names, class_names, form_names, replay_names      the names that `--kind`, `--class` and `--as` take, also that of `replay`
+--   operand_rule, optional_rule, flag_rule      an operand, which has to be there or need not, and an option without a value
 --   parser_taking, option_rule              what the value of an option has to be, and an option with a value; half hours are from -24 to 47
 --   rule_of_argument, with_arguments        an argument, and a command with arguments
 --   app_of_command, with_commands           a command, and a program with commands
@@ -34,25 +34,34 @@ abbrev pub class_names : List Text
 class_names = codes "any" ∷ codes "clearing" ∷ []
 
 abbrev pub form_names : List Text
-form_names = codes "text" ∷ codes "ansi" ∷ codes "svg" ∷ codes "html" ∷ []
+form_names = codes "text" ∷ codes "ansi" ∷ codes "blocks" ∷ codes "svg" ∷ codes "html" ∷ []
+
+abbrev pub replay_names : List Text
+replay_names = codes "words" ∷ codes "text" ∷ codes "html" ∷ []
 
 abbrev pub HasNames : Names → Type 0
-HasNames names = AreNames names.kinds kind_names × AreNames names.classes class_names × AreNames names.forms form_names
+HasNames names =
+    AreNames names.kinds kind_names × AreNames names.classes class_names × AreNames names.forms form_names × AreNames names.replays replay_names
 
 abbrev pub operand_rule : Text → Rule
 operand_rule id = record (new_rule id) { required = true; value_names = 1 }
+
+abbrev pub optional_rule : Text → Rule
+optional_rule id = record (new_rule id) { value_names = 1 }
 
 abbrev pub flag_rule : Text → Rule
 flag_rule id = record (new_rule id) { long = Some id; action = Some SetTrue }
 
 abbrev pub parser_taking : Names → Takes → Option ValueParser
 parser_taking names takes.Operand = None
+parser_taking names takes.Optional = None
 parser_taking names takes.Text = None
 parser_taking names (takes.Number low high) = Some (parser.Unsigned low high)
 parser_taking names takes.HalfHours = Some (parser.Signed (negsuc 23) (pos 47))
 parser_taking names takes.Kind = Some (parser.Names names.kinds)
 parser_taking names takes.Class = Some (parser.Names names.classes)
 parser_taking names takes.Form = Some (parser.Names names.forms)
+parser_taking names takes.ReplayForm = Some (parser.Names names.replays)
 parser_taking names takes.Nothing = None
 
 abbrev pub option_rule : Text → Bool → Option ValueParser → Rule
@@ -60,6 +69,7 @@ option_rule id needed parser = record (new_rule id) { long = Some id; value_name
 
 abbrev pub rule_taking : Names → Text → Bool → Takes → Rule
 rule_taking names id needed takes.Operand = operand_rule id
+rule_taking names id needed takes.Optional = optional_rule id
 rule_taking names id needed takes.Nothing = flag_rule id
 rule_taking names id needed takes.Text = option_rule id needed None
 rule_taking names id needed (takes.Number low high) = option_rule id needed (Some (parser.Unsigned low high))
@@ -67,6 +77,7 @@ rule_taking names id needed takes.HalfHours = option_rule id needed (Some (parse
 rule_taking names id needed takes.Kind = option_rule id needed (Some (parser.Names names.kinds))
 rule_taking names id needed takes.Class = option_rule id needed (Some (parser.Names names.classes))
 rule_taking names id needed takes.Form = option_rule id needed (Some (parser.Names names.forms))
+rule_taking names id needed takes.ReplayForm = option_rule id needed (Some (parser.Names names.replays))
 
 abbrev pub rule_of_argument : Names → Argument → Rule
 rule_of_argument names argument = rule_taking names (id_of argument) (is_needed argument) (takes_of argument)

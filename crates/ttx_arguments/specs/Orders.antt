@@ -1,17 +1,18 @@
--- What words ask for.
+-- What a command line asks for.
 --
 --   LookView, look_view      how a page is shown
+--   look_seen                the same where colours are shown or not
 --   OrderView, order_view    an order, its texts as bytes
 --   number_given, number_at  the number that a parse gives an argument
 --   kind_named, class_named, form_named, replay_form_named      a kind of receiver, a class and a form by its name
 --   clock_at, sending_at     the clock in page headers, and the fields that `send` sends
 --   is_cycle_twice, is_twice        a cycle that is read twice, or more than one input, is standard input
 --   order_by, order_at       the order of a command with its values, or why there is none
---   Asks                     what the program is asked for by words
---   Refuses, Answers         what is answered for words
---   IsFaultOf, IsSettled     an error of `clap` by its own name, and what is made of it
+--   Asks                     what a command line asks for
+--   Refuses, Answers         what is returned for a command line
+--   IsFaultOf, IsSettled     an error of `clap` by its own name, and what it becomes
 use Rattle.std.specs.Prelude.{◌≡◌, ◌≢◌, ◌≤◌, ◌⊎◌, ℕ, Bool, true, false, not, ◌&&◌, ◌||◌, List, [], ◌∷◌, ⊤, Option, Some, None, option_map, option_and_then, Result, Ok, Err, codes}
-use Rattle.std.specs.Prelude.{unwrap_or, count_by, nat_lt, nat_le, if◌then◌else◌, ℤ, pos}
+use Rattle.std.specs.Prelude.{is_some, unwrap_or, count_by, nat_lt, nat_le, if◌then◌else◌, ℤ, pos}
 use Rattle.std.specs.Str.{bytes_eq}
 use Rattle.clap.specs.Words.{App, Row, Text, Kinds, IsAmong, subcommand_of, fault_of, kind_of}
 use Rattle.clap.specs.declared.error.Error.{Error}
@@ -39,37 +40,48 @@ use Rattle.ttx_arguments.specs.declared.command_names.CommandName.TheVariants as
 use Rattle.ttx_arguments.specs.declared.conflicts.Conflict.{Conflict}
 use Rattle.ttx_arguments.specs.declared.orders.Look.{Look}
 use Rattle.ttx_arguments.specs.declared.orders.Order.{Order}
-use Rattle.ttx_arguments.specs.declared.orders.Order.TheVariants.{Inspect, Plan, Find, Certify, Refute, Replay, Receive, Show, Preview, Splice, Wait}
+use Rattle.ttx_arguments.specs.declared.orders.Order.TheVariants.{Inspect, Plan, Find, Certify, Refute, Replay, Receive, Show, Preview, PreviewAll, Splice, Wait}
 use Rattle.ttx_arguments.specs.declared.orders.Order.TheVariants.{Send, Air, Monitor, Report, Pages, Book, Extract, Check, Compose, Decompose, Explain, Version}
 use Rattle.ttx_arguments.specs.declared.orders.ReceiverKind.{ReceiverKind}
 use Rattle.ttx_arguments.specs.declared.orders.ReceiverKind.TheVariants.{Eager, Careful, Cleared}
+use Rattle.ttx_arguments.specs.declared.orders.ReplayForm.{ReplayForm}
+use Rattle.ttx_arguments.specs.declared.orders.ReplayForm.TheVariants as shown
 use Rattle.ttx_arguments.specs.declared.orders.Sending.{Sending}
 use Rattle.ttx_arguments.specs.declared.orders.Tuning.{Tuning}
 use Rattle.ttx_arguments.specs.declared.orders.WordsFault.{WordsFault}
-use Rattle.ttx_arguments.specs.declared.orders.WordsFault.TheVariants.{Refused, Page, Time, Seconds, Deadlines, Within, Numbers, Clocks, Twice, NoMemory, Apart}
+use Rattle.ttx_arguments.specs.declared.orders.WordsFault.TheVariants.{Refused, Page, Time, Seconds, Deadlines, Within, Numbers, Clocks, Twice, NoMemory, Apart, Forms}
 
 -- how a page is shown, its name as bytes
 pub record LookView : Type 0 where
   pub page : Text
   pub form : Form
+  pub given : Bool
   pub reveal : Bool
 
 abbrev pub look_view : Look → LookView
-look_view look = record { page = look.page.now; form = look.form; reveal = look.reveal }
+look_view look = record { page = look.page.now; form = look.form; given = look.given; reveal = look.reveal }
+
+-- a form that is not asked for is text where no colours are shown
+abbrev pub seen_form : Bool → Bool → Form → Form
+seen_form given colours asked = if given || colours then asked else form.Text
+
+abbrev pub look_seen : Bool → LookView → LookView
+look_seen colours look = record look { form = seen_form look.given colours look.form }
 
 -- an order, its texts as bytes
 pub data OrderView : Type 0 where
   inspect_order : (file : Text) → OrderView
   plan_order : (service out : Text) → (class : Class) → (late spread : Bool) → OrderView
   find_order : (cycle service out : Text) → (repeat : ℕ) → (class : Class) → (deadline : Option ℕ) → OrderView
-  certify_order : (cycle service certificate : Text) → (late numbers twice : Bool) → (within : Option ℕ) → (all : Bool) → OrderView
-  refute_order : (cycle service certificate : Text) → (save : Option Text) → OrderView
-  replay_order : (cycle service counter : Text) → OrderView
+  certify_order : (cycle service certificate : Text) → (late numbers twice : Bool) → (within : Option ℕ) → (all json : Bool) → OrderView
+  refute_order : (cycle service certificate : Text) → (save : Option Text) → (json : Bool) → OrderView
+  replay_order : (cycle service counter : Text) → (form : ReplayForm) → OrderView
   receive_order : (cycle : Text) → (tuning : Tuning) → OrderView
   show_order : (cycle : Text) → (tuning : Tuning) → (look : LookView) → OrderView
   preview_order : (service : Text) → (selection : Selection) → (look : LookView) → OrderView
+  preview_all_order : (service : Text) → (look : LookView) → OrderView
   splice_order : (old new old_service new_service old_certificate new_certificate : Text) → (sent : Option ℕ) → (late : Bool) → OrderView
-  wait_order : (cycle service : Text) → (repeat : ℕ) → (class : Class) → (items numbers : Bool) → OrderView
+  wait_order : (cycle service : Text) → (repeat : ℕ) → (class : Class) → (items numbers json : Bool) → OrderView
   send_order : (cycle : Text) → (timing : TimingView) → (sending : Sending) → (force : Bool) → OrderView
   monitor_order : (cycle service certificate feed : Text) → (start : Option ℕ) → (all : Bool) → (every : Option ℕ) → (rows : Bool) → OrderView
   air_order : (service : Text) → (within repeat : ℕ) → (timing : TimingView) → (fields : Option ℕ) → (late spread : Bool) → (log : Option Text) → (force : Bool) → OrderView
@@ -77,7 +89,7 @@ pub data OrderView : Type 0 where
   pages_order : (cycle : Text) → (json : Bool) → OrderView
   book_order : (cycle out : Text) → OrderView
   extract_order : (cycle out : Text) → (lines : ℕ) → OrderView
-  check_order : (service : Text) → OrderView
+  check_order : (service : Text) → (long strict : Bool) → OrderView
   compose_order : (author out : Text) → OrderView
   decompose_order : (service out : Text) → OrderView
   explain_order : (reason : Text) → OrderView
@@ -87,15 +99,16 @@ abbrev pub order_view : Order → OrderView
 order_view (Inspect file) = inspect_order file.now
 order_view (Plan o) = plan_order o.service.now o.out.now o.class o.late o.spread
 order_view (Find o) = find_order o.cycle.now o.service.now o.out.now o.repeat o.class o.deadline
-order_view (Certify o) = certify_order o.cycle.now o.service.now o.certificate.now o.late o.numbers o.twice o.within o.all
-order_view (Refute o) = refute_order o.cycle.now o.service.now o.certificate.now (option_map (λ s. s.now) o.save)
-order_view (Replay o) = replay_order o.cycle.now o.service.now o.counter.now
+order_view (Certify o) = certify_order o.cycle.now o.service.now o.certificate.now o.late o.numbers o.twice o.within o.all o.json
+order_view (Refute o) = refute_order o.cycle.now o.service.now o.certificate.now (option_map (λ s. s.now) o.save) o.json
+order_view (Replay o) = replay_order o.cycle.now o.service.now o.counter.now o.form
 order_view (Receive cycle tuning) = receive_order cycle.now tuning
 order_view (Show cycle tuning look) = show_order cycle.now tuning (look_view look)
 order_view (Preview service selection look) = preview_order service.now selection (look_view look)
+order_view (PreviewAll service look) = preview_all_order service.now (look_view look)
 order_view (Splice o) =
     splice_order o.old.now o.new.now o.old_service.now o.new_service.now o.old_certificate.now o.new_certificate.now o.sent o.late
-order_view (Wait o) = wait_order o.cycle.now o.service.now o.repeat o.class o.items o.numbers
+order_view (Wait o) = wait_order o.cycle.now o.service.now o.repeat o.class o.items o.numbers o.json
 order_view (Send o) = send_order o.cycle.now (timing_view o.timing) o.sending o.force
 order_view (Air o) =
     air_order o.service.now o.within o.repeat (timing_view o.timing) o.fields o.late o.spread (option_map (λ s. s.now) o.log) o.force
@@ -104,7 +117,7 @@ order_view (Report o) = report_order o.cycle.now o.service.now o.certificate.now
 order_view (Pages cycle json) = pages_order cycle.now json
 order_view (Book cycle out) = book_order cycle.now out.now
 order_view (Extract cycle out lines) = extract_order cycle.now out.now lines
-order_view (Check service) = check_order service.now
+order_view (Check o) = check_order o.service.now o.long o.strict
 order_view (Compose author out) = compose_order author.now out.now
 order_view (Decompose service out) = decompose_order service.now out.now
 order_view (Explain reason) = explain_order reason.now
@@ -133,26 +146,33 @@ repeat_at rows = number_at argument.Repeat 1 rows
 abbrev pub lines_at : List Row → ℕ
 lines_at rows = number_at argument.Lines 16 rows
 
--- eager unless it is another
+-- eager by default
 abbrev pub kind_named : Text → ReceiverKind
 kind_named name =
     if bytes_eq name (codes "careful") then Careful
     else if bytes_eq name (codes "cleared") then Cleared
     else Eager
 
--- any unless it is clearing
+-- any by default
 abbrev pub class_named : Text → Class
 class_named name = if bytes_eq name (codes "clearing") then Clearing else Any
 
--- a terminal's codes unless it is another
+-- terminal codes by default
 abbrev pub form_named : Text → Form
 form_named name =
     if bytes_eq name (codes "text") then form.Text
+    else if bytes_eq name (codes "blocks") then form.Blocks
     else if bytes_eq name (codes "svg") then form.Svg
     else if bytes_eq name (codes "html") then form.Html
     else form.Ansi
 
--- why words that `clap` takes ask for nothing
+abbrev pub replay_form_named : Text → ReplayForm
+replay_form_named name =
+    if bytes_eq name (codes "text") then shown.Text
+    else if bytes_eq name (codes "html") then shown.Html
+    else shown.Words
+
+-- why words that `clap` accepts are refused
 pub data Unfit : Type 0 where
   no_page : Unfit
   no_time : Unfit
@@ -163,6 +183,7 @@ pub data Unfit : Type 0 where
   two_clocks : Unfit
   named_twice : Unfit
   apart : Conflict → Unfit
+  one_page_form : Unfit
 
 abbrev pub tuning_asked : Selection → List Row → Tuning
 tuning_asked selection rows = record {
@@ -178,7 +199,12 @@ receive_by None rows = Err no_page
 receive_by (Some selection) rows = Ok (receive_order (text_at argument.Cycle rows) (tuning_asked selection rows))
 
 abbrev pub look_at : List Row → LookView
-look_at rows = record { page = text_at argument.Page rows; form = form_named (text_at argument.Form rows); reveal = is_set argument.Reveal rows }
+look_at rows = record {
+  page = text_at argument.Page rows;
+  form = form_named (text_at argument.Form rows);
+  given = is_some (given_at argument.Form rows);
+  reveal = is_set argument.Reveal rows;
+}
 
 abbrev pub show_by : Option Selection → List Row → Result OrderView Unfit
 show_by None rows = Err no_page
@@ -205,7 +231,7 @@ abbrev pub find_within : Option ℕ → List Row → Result OrderView Unfit
 find_within None rows = Err no_seconds
 find_within (Some fields) rows = Ok (find_with (Some fields) rows)
 
--- the deadline in fields or in seconds, or in neither, but not in both
+-- the deadline in fields or in seconds, or neither, but not both
 abbrev pub find_by : Option ℕ → Option Text → List Row → Result OrderView Unfit
 find_by deadline None rows = Ok (find_with deadline rows)
 find_by (Some fields) (Some seconds) rows = Err two_deadlines
@@ -218,24 +244,24 @@ abbrev pub certify_with : Option ℕ → List Row → OrderView
 certify_with within rows =
     certify_order (text_at argument.Cycle rows) (text_at argument.Service rows) (text_at argument.Certificate rows)
     (is_set argument.Late rows) (is_set argument.Numbers rows) (is_set argument.Twice rows) within
-    (is_set argument.CertifyAll rows)
+    (is_set argument.CertifyAll rows) (is_set argument.Json rows)
 
 abbrev pub certify_required : Option ℕ → List Row → Result OrderView Unfit
 certify_required None rows = Err no_seconds
 certify_required (Some fields) rows = Ok (certify_with (Some fields) rows)
 
--- neither late receivers nor a cycle that is read twice go with seconds
+-- seconds cannot be combined with late receivers or a cycle that is read twice
 abbrev pub certify_within : Text → List Row → Result OrderView Unfit
 certify_within seconds rows =
     if is_set argument.Late rows || is_set argument.Twice rows then Err within_and_more
     else certify_required (fields_of seconds) rows
 
--- page numbers go with late receivers, and not with a cycle that is read twice
+-- page numbers require late receivers, and cannot be combined with a cycle that is read twice
 abbrev pub certify_numbers : List Row → Result OrderView Unfit
 certify_numbers rows =
     if is_set argument.Late rows && not (is_set argument.Twice rows) then Ok (certify_with None rows) else Err numbers_unfit
 
--- whether page numbers are asked for, and seconds, which do not go together
+-- page numbers or seconds, which cannot be combined
 abbrev pub certify_by : Bool → Option Text → List Row → Result OrderView Unfit
 certify_by false None rows = Ok (certify_with None rows)
 certify_by false (Some seconds) rows = certify_within seconds rows
@@ -248,9 +274,12 @@ certify_at rows = certify_by (is_set argument.Numbers rows) (given_at argument.W
 abbrev pub refute_at : List Row → OrderView
 refute_at rows =
     refute_order (text_at argument.Cycle rows) (text_at argument.Service rows) (text_at argument.Certificate rows) (given_at argument.Save rows)
+    (is_set argument.Json rows)
 
 abbrev pub replay_at : List Row → OrderView
-replay_at rows = replay_order (text_at argument.Cycle rows) (text_at argument.Service rows) (text_at argument.Counter rows)
+replay_at rows =
+    replay_order (text_at argument.Cycle rows) (text_at argument.Service rows) (text_at argument.Counter rows)
+    (replay_form_named (text_at argument.ReplayForm rows))
 
 abbrev pub receive_at : List Row → Result OrderView Unfit
 receive_at rows = receive_by (selection_of (text_at argument.Page rows)) rows
@@ -258,8 +287,20 @@ receive_at rows = receive_by (selection_of (text_at argument.Page rows)) rows
 abbrev pub show_at : List Row → Result OrderView Unfit
 show_at rows = show_by (selection_of (text_at argument.Page rows)) rows
 
+-- SVG and HTML are forms of one page
+abbrev pub is_of_one_page : Form → Bool
+is_of_one_page form.Svg = true
+is_of_one_page form.Html = true
+is_of_one_page _ = false
+
+abbrev pub preview_all_at : List Row → Result OrderView Unfit
+preview_all_at rows =
+    if is_of_one_page (look_at rows).form then Err one_page_form else Ok (preview_all_order (text_at argument.Service rows) (look_at rows))
+
+-- all pages, or the one that is named; where none is, it is refused as one
 abbrev pub preview_at : List Row → Result OrderView Unfit
-preview_at rows = preview_by (selection_of (text_at argument.Page rows)) rows
+preview_at rows =
+    if is_set argument.PreviewAll rows then preview_all_at rows else preview_by (selection_of (text_at argument.Page rows)) rows
 
 abbrev pub splice_asked : List Row → OrderView
 splice_asked rows =
@@ -271,6 +312,7 @@ abbrev pub wait_at : List Row → OrderView
 wait_at rows =
     wait_order (text_at argument.Cycle rows) (text_at argument.Service rows) (repeat_at rows)
     (class_named (text_at argument.Class rows)) (is_set argument.Items rows) (is_set argument.WaitNumbers rows)
+    (is_set argument.Json rows)
 
 abbrev pub monitor_at : List Row → OrderView
 monitor_at rows =
@@ -292,7 +334,7 @@ abbrev pub extract_at : List Row → OrderView
 extract_at rows = extract_order (text_at argument.Cycle rows) (text_at argument.Extracted rows) (lines_at rows)
 
 abbrev pub check_at : List Row → OrderView
-check_at rows = check_order (text_at argument.Service rows)
+check_at rows = check_order (text_at argument.Service rows) (is_set argument.Long rows) (is_set argument.Strict rows)
 
 abbrev pub compose_at : List Row → OrderView
 compose_at rows = compose_order (text_at argument.Author rows) (text_at argument.Composed rows)
@@ -332,7 +374,7 @@ send_by (Some start) (Some clock) rows =
 abbrev pub send_at : List Row → Result OrderView Unfit
 send_at rows = send_by (start_named (text_at argument.At rows)) (clock_at rows) rows
 
--- late unless it is at once
+-- late by default
 abbrev pub air_with : ℕ → TimingView → List Row → OrderView
 air_with within timing rows =
     air_order (text_at argument.Watched rows) within (repeat_at rows) timing (number_given argument.AirFields rows)
@@ -344,7 +386,7 @@ air_by (Some within) None clock rows = Err no_time
 air_by (Some within) (Some start) None rows = Err two_clocks
 air_by (Some within) (Some start) (Some clock) rows = Ok (air_with within (record { start = start; clock = clock }) rows)
 
--- when the machine's clock is asked, unless it is another time
+-- now by default
 abbrev pub air_start_at : List Row → Option StartView
 air_start_at rows = start_named (unwrap_or (given_at argument.AirAt rows) (codes "now"))
 
@@ -401,7 +443,7 @@ once command rows = if is_twice command rows then Err named_twice else fitting (
 unfoldable pub order_at : Text → List Row → Result OrderView Unfit
 order_at name rows = once (command_named name) rows
 
--- words that `clap` takes ask for their command with its values
+-- words that `clap` accepts ask for their command with its values
 abbrev pub AsksByCommand : App → List Text → Result OrderView Unfit → Type 0
 AsksByCommand app words answer =
     (fault_of app words ≡ []) × (option_map (λ p. order_at p.0 p.1) (subcommand_of app words) ≡ Some answer)
@@ -415,7 +457,7 @@ unfoldable pub Asks : App → List Text → Result OrderView Unfit → Type 0
 Asks app [] answer = answer ≡ Ok (inspect_order (codes "-"))
 Asks app (word ∷ words) answer = AsksByCommand app (word ∷ words) answer ⊎ AsksForVersion app (word ∷ words) answer
 
--- the kind of an error of `clap` is one of the faults that it finds in the words, and there are some
+-- the kind of an error of `clap` is one of the faults that it finds in the words, and there is one
 unfoldable pub Refuses : App → List Text → Error → Type 0
 Refuses app [] error = ⊥
 Refuses app (word ∷ words) error = IsAmong (kind_of error) (fault_of app (word ∷ words)) × (kind_of error ≢ DisplayVersion)
@@ -432,13 +474,14 @@ AnswersBy app words (Err Numbers) = Asks app words (Err numbers_unfit)
 AnswersBy app words (Err Clocks) = Asks app words (Err two_clocks)
 AnswersBy app words (Err Twice) = Asks app words (Err named_twice)
 AnswersBy app words (Err (Apart conflict)) = Asks app words (Err (apart conflict))
+AnswersBy app words (Err Forms) = Asks app words (Err one_page_form)
 AnswersBy app words (Err NoMemory) = ⊤
 
 -- The same with the names that `--kind`, `--class` and `--as` take.
 abbrev pub Answers : List Text → Result Order WordsFault → Type 0
 Answers words result = (names : Names) × HasNames names × AnswersBy (ttx_app names) words result
 
--- an order, or the fault of words that ask for nothing
+-- an order, or the fault of refused words
 abbrev pub IsOrderOf : Result Order WordsFault → Result OrderView Unfit → Type 0
 IsOrderOf (Ok order) answer = answer ≡ Ok (order_view order)
 IsOrderOf (Err Page) answer = answer ≡ Err no_page
@@ -451,6 +494,7 @@ IsOrderOf (Err Clocks) answer = answer ≡ Err two_clocks
 IsOrderOf (Err (Refused error)) answer = ⊥
 IsOrderOf (Err Twice) answer = answer ≡ Err named_twice
 IsOrderOf (Err (Apart conflict)) answer = answer ≡ Err (apart conflict)
+IsOrderOf (Err Forms) answer = answer ≡ Err one_page_form
 IsOrderOf (Err NoMemory) answer = ⊥
 
 -- the kind of an error of `clap` is one of these
@@ -465,9 +509,10 @@ IsRefusalOf Numbers kinds = ⊥
 IsRefusalOf Clocks kinds = ⊥
 IsRefusalOf Twice kinds = ⊥
 IsRefusalOf (Apart conflict) kinds = ⊥
+IsRefusalOf Forms kinds = ⊥
 IsRefusalOf NoMemory kinds = ⊤
 
--- an error of `clap`, and want of memory by its own name
+-- an error of `clap`, and lack of memory by its own name
 abbrev pub IsFaultOf : WordsFault → Error → Type 0
 IsFaultOf (Refused error) e = (error ≡ e) × (kind_of e ≢ OutOfMemory)
 IsFaultOf Page e = ⊥
@@ -479,9 +524,10 @@ IsFaultOf Numbers e = ⊥
 IsFaultOf Clocks e = ⊥
 IsFaultOf Twice e = ⊥
 IsFaultOf (Apart conflict) e = ⊥
+IsFaultOf Forms e = ⊥
 IsFaultOf NoMemory e = kind_of e ≡ OutOfMemory
 
--- what `clap` refuses stays refused, but for the version, which is an order
+-- what `clap` refuses stays refused, except the version, which is an order
 abbrev pub IsSettled : WordsFault → Result Order WordsFault → Type 0
 IsSettled (Refused error) (Ok order) = (kind_of error ≡ DisplayVersion) × (order_view order ≡ version_order)
 IsSettled (Refused error) (Err (Refused e)) = (e ≡ error) × (kind_of error ≢ DisplayVersion)
@@ -495,4 +541,5 @@ IsSettled Numbers (Err Numbers) = ⊤
 IsSettled Clocks (Err Clocks) = ⊤
 IsSettled Twice (Err Twice) = ⊤
 IsSettled (Apart conflict) (Err (Apart c)) = c ≡ conflict
+IsSettled Forms (Err Forms) = ⊤
 IsSettled _ _ = ⊥

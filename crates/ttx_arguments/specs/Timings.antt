@@ -1,7 +1,7 @@
 -- When a sending begins, and which clock its page headers show (profile).
 --
 --   StartView, start_dated, start_named     now; a moment in UTC; or a time that a text names, in UTC or by the clock
---   signed_numeral, half_hours      the number that a text writes behind a sign or none; half hours from -24 to 47
+--   signed_numeral, half_hours      the number of a text after an optional sign; half hours from -24 to 47
 --   ClockView               so many half hours ahead of UTC, or by the rules of a time zone
 --   TimingView              both
 use Rattle.std.specs.Prelude.{ℕ, ℤ, pos, negsuc, int_le, nat_lt, ◌&&◌, if◌then◌else◌, Option, Some, None, option_map, codes}
@@ -36,7 +36,7 @@ start_named text =
     else if is_dated text then start_dated text
     else Some (start_text text)
 
--- decimal digits, behind a sign or none
+-- decimal digits, after an optional sign
 abbrev pub signed_numeral : Text → Option ℤ
 signed_numeral text =
     if is_numeral (without_leading_sign text) && nat_lt (digits_value 10 (without_leading_sign text)) 1000

@@ -5,17 +5,19 @@ ghost use Rattle.ttx_arguments.specs.Arguments as rule;
 
 use crate::help;
 
-/// What an argument takes: it is an operand, or an option with any text, a number from low to high, half
-/// hours, a name of a list, or nothing.
+/// What an argument takes: it is an operand, which may be optional, or an option with any text, a number from low to high, half
+/// hours, with a name of a list, or without a value.
 #[derive(Clone, Copy)]
 pub enum Takes {
     Operand,
+    Optional,
     Text,
     Number(u64, u64),
     HalfHours,
     Kind,
     Class,
     Form,
+    ReplayForm,
     Nothing,
 }
 
@@ -42,6 +44,7 @@ pub enum Argument {
     Class,
     Kind,
     Form,
+    ReplayForm,
     Repeat,
     Lines,
     NeededLines,
@@ -85,196 +88,101 @@ pub enum Argument {
     MonitorAll,
     CertifyAll,
     Rows,
+    SomePage,
+    PreviewAll,
+    Long,
+    Strict,
 }
+
+// The name of each argument in the order of `Argument`, what help calls its value, and what help says of it.
+#[rattlefmt::skip]
+static TEXTS: [(&str, &str, &str); 68] = [
+    ("file", "FILE", help::CYCLE_OPERAND),
+    ("cycle", "CYCLE", help::CYCLE_OPERAND),
+    ("service", "SERVICE", help::SERVICE_OPERAND),
+    ("certificate", "CERT", help::CERTIFICATE_OPERAND),
+    ("counter", "COUNTER", help::COUNTER_OPERAND),
+    ("feed", "FEED", help::FEED_OPERAND),
+    ("page", "PAGE", help::PAGE_OPERAND),
+    ("out", "OUT", help::PLANNED_OPERAND),
+    ("out", "OUT", help::FOUND_OPERAND),
+    ("out", "OUT", help::BOOK_OPERAND),
+    ("out", "OUT", help::EXTRACTED_OPERAND),
+    ("old", "OLD", help::OLD_OPERAND),
+    ("new", "NEW", help::NEW_OPERAND),
+    ("old_service", "OLDSERVICE", help::OLD_SERVICE_OPERAND),
+    ("new_service", "NEWSERVICE", help::NEW_SERVICE_OPERAND),
+    ("old_certificate", "OLDCERT", help::OLD_CERTIFICATE_OPERAND),
+    ("new_certificate", "NEWCERT", help::NEW_CERTIFICATE_OPERAND),
+    ("class", "CLASS", help::CLASS_OPTION),
+    ("kind", "KIND", help::KIND_OPTION),
+    ("as", "FORM", help::FORM_OPTION),
+    ("as", "FORM", help::REPLAY_FORM_OPTION),
+    ("repeat", "K", help::REPEAT_OPTION),
+    ("lines", "L", help::LINES_OPTION),
+    ("lines", "L", help::NEEDED_LINES_OPTION),
+    ("start", "S", help::START_OPTION),
+    ("start", "S", help::FEED_START_OPTION),
+    ("slots", "N", help::SLOTS_OPTION),
+    ("fields", "N", help::FIELDS_OPTION),
+    ("phase", "F", help::PHASE_OPTION),
+    ("offset", "HALVES", help::OFFSET_OPTION),
+    ("zone", "ZONE", help::ZONE_OPTION),
+    ("sent", "PERIODS", help::SENT_OPTION),
+    ("deadline", "FIELDS", help::DEADLINE_OPTION),
+    ("within", "SECONDS", help::WITHIN_OPTION),
+    ("save", "OUT", help::SAVE_OPTION),
+    ("at", "TIME", help::AT_OPTION),
+    ("late", "", help::PLANNED_LATE_OPTION),
+    ("spread", "", help::SPREAD_OPTION),
+    ("late", "", help::LATE_OPTION),
+    ("late", "", help::SPLICED_LATE_OPTION),
+    ("numbers", "", help::NUMBERS_OPTION),
+    ("numbers", "", help::WAIT_NUMBERS_OPTION),
+    ("twice", "", help::TWICE_OPTION),
+    ("reveal", "", help::REVEAL_OPTION),
+    ("items", "", help::ITEMS_OPTION),
+    ("force", "", help::FORCE_OPTION),
+    ("author", "AUTHOR", help::AUTHOR_OPERAND),
+    ("out", "OUT", help::COMPOSED_OPERAND),
+    ("out", "OUT", help::DECOMPOSED_OPERAND),
+    ("out", "OUT", help::REPORTED_OPERAND),
+    ("reason", "REASON", help::REASON_OPERAND),
+    ("service", "SERVICE", help::WATCHED_OPERAND),
+    ("within", "SECONDS", help::AIR_WITHIN_OPTION),
+    ("at", "TIME", help::AIR_AT_OPTION),
+    ("fields", "N", help::AIR_FIELDS_OPTION),
+    ("log", "FILE", help::AIR_LOG_OPTION),
+    ("every", "FIELDS", help::EVERY_OPTION),
+    ("date", "DATE", help::DATE_OPTION),
+    ("late", "", help::AIR_LATE_OPTION),
+    ("at-once", "", help::AT_ONCE_OPTION),
+    ("json", "", help::JSON_OPTION),
+    ("all", "", help::MONITOR_ALL_OPTION),
+    ("all", "", help::CERTIFY_ALL_OPTION),
+    ("rows", "", help::ROWS_OPTION),
+    ("page", "PAGE", help::SOME_PAGE_OPERAND),
+    ("all", "", help::PREVIEW_ALL_OPTION),
+    ("long", "", help::LONG_OPTION),
+    ("strict", "", help::STRICT_OPTION),
+];
 
 impl Argument {
     /// Its name.
     pub(crate) fn id<'a>(self) -> &'a str
         ensures { result.now ≡ rule.id_of self }
     {
-        match self {
-            Argument::File => "file",
-            Argument::Cycle => "cycle",
-            Argument::Service | Argument::Watched => "service",
-            Argument::Certificate => "certificate",
-            Argument::Counter => "counter",
-            Argument::Feed => "feed",
-            Argument::Page => "page",
-            Argument::Planned
-            | Argument::Found
-            | Argument::Book
-            | Argument::Extracted
-            | Argument::Composed
-            | Argument::Decomposed
-            | Argument::Reported => "out",
-            Argument::Old => "old",
-            Argument::New => "new",
-            Argument::OldService => "old_service",
-            Argument::NewService => "new_service",
-            Argument::OldCertificate => "old_certificate",
-            Argument::NewCertificate => "new_certificate",
-            Argument::Class => "class",
-            Argument::Kind => "kind",
-            Argument::Form => "as",
-            Argument::Repeat => "repeat",
-            Argument::Lines | Argument::NeededLines => "lines",
-            Argument::Start | Argument::FeedStart => "start",
-            Argument::Slots => "slots",
-            Argument::Fields | Argument::AirFields => "fields",
-            Argument::Phase => "phase",
-            Argument::Offset => "offset",
-            Argument::Zone => "zone",
-            Argument::Sent => "sent",
-            Argument::Deadline => "deadline",
-            Argument::Within | Argument::AirWithin => "within",
-            Argument::Save => "save",
-            Argument::At | Argument::AirAt => "at",
-            Argument::PlannedLate | Argument::Late | Argument::SplicedLate | Argument::AirLate =>
-                "late",
-            Argument::Spread => "spread",
-            Argument::Numbers | Argument::WaitNumbers => "numbers",
-            Argument::Twice => "twice",
-            Argument::Reveal => "reveal",
-            Argument::Items => "items",
-            Argument::Force => "force",
-            Argument::Author => "author",
-            Argument::Reason => "reason",
-            Argument::AirLog => "log",
-            Argument::Every => "every",
-            Argument::Date => "date",
-            Argument::AtOnce => "at-once",
-            Argument::Json => "json",
-            Argument::MonitorAll | Argument::CertifyAll => "all",
-            Argument::Rows => "rows",
-        }
+        TEXTS[self as usize].0
     }
 
-    /// What help calls its value.
+    /// The name of its value in help.
     pub(crate) fn value_name<'a>(self) -> &'a str {
-        match self {
-            Argument::File | Argument::AirLog => "FILE",
-            Argument::Cycle => "CYCLE",
-            Argument::Service | Argument::Watched => "SERVICE",
-            Argument::Certificate => "CERT",
-            Argument::Counter => "COUNTER",
-            Argument::Feed => "FEED",
-            Argument::Page => "PAGE",
-            Argument::Planned
-            | Argument::Found
-            | Argument::Book
-            | Argument::Extracted
-            | Argument::Composed
-            | Argument::Decomposed
-            | Argument::Reported
-            | Argument::Save => "OUT",
-            Argument::Old => "OLD",
-            Argument::New => "NEW",
-            Argument::OldService => "OLDSERVICE",
-            Argument::NewService => "NEWSERVICE",
-            Argument::OldCertificate => "OLDCERT",
-            Argument::NewCertificate => "NEWCERT",
-            Argument::Class => "CLASS",
-            Argument::Kind => "KIND",
-            Argument::Form => "FORM",
-            Argument::Repeat => "K",
-            Argument::Lines | Argument::NeededLines => "L",
-            Argument::Start | Argument::FeedStart => "S",
-            Argument::Slots | Argument::Fields | Argument::AirFields => "N",
-            Argument::Phase => "F",
-            Argument::Offset => "HALVES",
-            Argument::Zone => "ZONE",
-            Argument::Sent => "PERIODS",
-            Argument::Deadline | Argument::Every => "FIELDS",
-            Argument::Within | Argument::AirWithin => "SECONDS",
-            Argument::At | Argument::AirAt => "TIME",
-            Argument::Author => "AUTHOR",
-            Argument::Reason => "REASON",
-            Argument::Date => "DATE",
-            Argument::PlannedLate
-            | Argument::Spread
-            | Argument::Late
-            | Argument::SplicedLate
-            | Argument::Numbers
-            | Argument::WaitNumbers
-            | Argument::Twice
-            | Argument::Reveal
-            | Argument::Items
-            | Argument::Force
-            | Argument::AirLate
-            | Argument::AtOnce
-            | Argument::Json
-            | Argument::MonitorAll
-            | Argument::CertifyAll
-            | Argument::Rows => "",
-        }
+        TEXTS[self as usize].1
     }
 
-    /// What help says of it.
+    /// Its text in help.
     pub(crate) fn help<'a>(self) -> &'a str {
-        match self {
-            Argument::File | Argument::Cycle => help::CYCLE_OPERAND,
-            Argument::Service => help::SERVICE_OPERAND,
-            Argument::Certificate => help::CERTIFICATE_OPERAND,
-            Argument::Counter => help::COUNTER_OPERAND,
-            Argument::Feed => help::FEED_OPERAND,
-            Argument::Page => help::PAGE_OPERAND,
-            Argument::Planned => help::PLANNED_OPERAND,
-            Argument::Found => help::FOUND_OPERAND,
-            Argument::Book => help::BOOK_OPERAND,
-            Argument::Extracted => help::EXTRACTED_OPERAND,
-            Argument::Old => help::OLD_OPERAND,
-            Argument::New => help::NEW_OPERAND,
-            Argument::OldService => help::OLD_SERVICE_OPERAND,
-            Argument::NewService => help::NEW_SERVICE_OPERAND,
-            Argument::OldCertificate => help::OLD_CERTIFICATE_OPERAND,
-            Argument::NewCertificate => help::NEW_CERTIFICATE_OPERAND,
-            Argument::Class => help::CLASS_OPTION,
-            Argument::Kind => help::KIND_OPTION,
-            Argument::Form => help::FORM_OPTION,
-            Argument::Repeat => help::REPEAT_OPTION,
-            Argument::Lines => help::LINES_OPTION,
-            Argument::NeededLines => help::NEEDED_LINES_OPTION,
-            Argument::Start => help::START_OPTION,
-            Argument::FeedStart => help::FEED_START_OPTION,
-            Argument::Slots => help::SLOTS_OPTION,
-            Argument::Fields => help::FIELDS_OPTION,
-            Argument::Phase => help::PHASE_OPTION,
-            Argument::Offset => help::OFFSET_OPTION,
-            Argument::Zone => help::ZONE_OPTION,
-            Argument::Sent => help::SENT_OPTION,
-            Argument::Deadline => help::DEADLINE_OPTION,
-            Argument::Within => help::WITHIN_OPTION,
-            Argument::Save => help::SAVE_OPTION,
-            Argument::At => help::AT_OPTION,
-            Argument::PlannedLate => help::PLANNED_LATE_OPTION,
-            Argument::Spread => help::SPREAD_OPTION,
-            Argument::Late => help::LATE_OPTION,
-            Argument::SplicedLate => help::SPLICED_LATE_OPTION,
-            Argument::Numbers => help::NUMBERS_OPTION,
-            Argument::WaitNumbers => help::WAIT_NUMBERS_OPTION,
-            Argument::Twice => help::TWICE_OPTION,
-            Argument::Reveal => help::REVEAL_OPTION,
-            Argument::Items => help::ITEMS_OPTION,
-            Argument::Force => help::FORCE_OPTION,
-            Argument::Author => help::AUTHOR_OPERAND,
-            Argument::Composed => help::COMPOSED_OPERAND,
-            Argument::Decomposed => help::DECOMPOSED_OPERAND,
-            Argument::Reported => help::REPORTED_OPERAND,
-            Argument::Reason => help::REASON_OPERAND,
-            Argument::Watched => help::WATCHED_OPERAND,
-            Argument::AirWithin => help::AIR_WITHIN_OPTION,
-            Argument::AirAt => help::AIR_AT_OPTION,
-            Argument::AirFields => help::AIR_FIELDS_OPTION,
-            Argument::AirLog => help::AIR_LOG_OPTION,
-            Argument::Every => help::EVERY_OPTION,
-            Argument::Date => help::DATE_OPTION,
-            Argument::AirLate => help::AIR_LATE_OPTION,
-            Argument::AtOnce => help::AT_ONCE_OPTION,
-            Argument::Json => help::JSON_OPTION,
-            Argument::MonitorAll => help::MONITOR_ALL_OPTION,
-            Argument::CertifyAll => help::CERTIFY_ALL_OPTION,
-            Argument::Rows => help::ROWS_OPTION,
-        }
+        TEXTS[self as usize].2
     }
 
     /// What it takes.
@@ -285,6 +193,7 @@ impl Argument {
             Argument::Class => Takes::Class,
             Argument::Kind => Takes::Kind,
             Argument::Form => Takes::Form,
+            Argument::ReplayForm => Takes::ReplayForm,
             Argument::Repeat => Takes::Number(1, 8),
             Argument::Lines | Argument::NeededLines => Takes::Number(1, 32),
             Argument::Start | Argument::FeedStart => Takes::Number(0, 65_535),
@@ -317,12 +226,16 @@ impl Argument {
             | Argument::Json
             | Argument::MonitorAll
             | Argument::CertifyAll
-            | Argument::Rows => Takes::Nothing,
+            | Argument::Rows
+            | Argument::PreviewAll
+            | Argument::Long
+            | Argument::Strict => Takes::Nothing,
+            Argument::SomePage => Takes::Optional,
             _ => Takes::Operand,
         }
     }
 
-    /// Whether an option has to be there.
+    /// Whether the option is required.
     pub(crate) fn is_needed(self) -> bool
         ensures { result ≡ rule.is_needed self }
     {

@@ -61,6 +61,49 @@ pub static COMMANDS: [CommandName; 23] = [
     CommandName::Explain,
 ];
 
+// The arguments of each command, in the order of `CommandName`.
+#[rattlefmt::skip]
+static ARGUMENTS: [&[Argument]; 23] = [
+    &[Argument::File],
+    &[Argument::Service, Argument::Planned, Argument::Class, Argument::PlannedLate, Argument::Spread],
+    &[Argument::Cycle, Argument::Service, Argument::Found, Argument::Repeat, Argument::Class, Argument::Deadline, Argument::Within],
+    &[
+        Argument::Cycle, Argument::Service, Argument::Certificate, Argument::Late, Argument::Numbers, Argument::Twice,
+        Argument::Within, Argument::CertifyAll, Argument::Json,
+    ],
+    &[Argument::Cycle, Argument::Service, Argument::Certificate, Argument::Save, Argument::Json],
+    &[Argument::Cycle, Argument::Service, Argument::Counter, Argument::ReplayForm],
+    &[Argument::Cycle, Argument::Page, Argument::Lines, Argument::Start, Argument::Slots, Argument::Kind],
+    &[Argument::Cycle, Argument::Page, Argument::Lines, Argument::Start, Argument::Slots, Argument::Kind, Argument::Form, Argument::Reveal],
+    &[Argument::Service, Argument::SomePage, Argument::PreviewAll, Argument::Form, Argument::Reveal],
+    &[
+        Argument::Old, Argument::New, Argument::OldService, Argument::NewService, Argument::OldCertificate, Argument::NewCertificate,
+        Argument::Sent, Argument::SplicedLate,
+    ],
+    &[Argument::Cycle, Argument::Service, Argument::Repeat, Argument::Class, Argument::Items, Argument::WaitNumbers, Argument::Json],
+    &[
+        Argument::Cycle, Argument::At, Argument::Fields, Argument::NeededLines, Argument::Phase, Argument::Offset, Argument::Zone,
+        Argument::Force,
+    ],
+    &[
+        Argument::Cycle, Argument::Service, Argument::Certificate, Argument::Feed, Argument::FeedStart, Argument::MonitorAll,
+        Argument::Every, Argument::Rows,
+    ],
+    &[Argument::Cycle, Argument::Json],
+    &[Argument::Cycle, Argument::Book],
+    &[Argument::Cycle, Argument::Extracted, Argument::NeededLines],
+    &[Argument::Service, Argument::Long, Argument::Strict],
+    &[],
+    &[
+        Argument::Watched, Argument::AirWithin, Argument::Repeat, Argument::AirAt, Argument::Zone, Argument::Offset,
+        Argument::AirFields, Argument::AirLate, Argument::AtOnce, Argument::Spread, Argument::AirLog, Argument::Force,
+    ],
+    &[Argument::Author, Argument::Composed],
+    &[Argument::Service, Argument::Decomposed],
+    &[Argument::Cycle, Argument::Service, Argument::Certificate, Argument::Reported, Argument::Date],
+    &[Argument::Reason],
+];
+
 impl CommandName {
     /// Its name.
     pub(crate) fn name<'a>(self) -> &'a str
@@ -93,7 +136,7 @@ impl CommandName {
         }
     }
 
-    /// What help says of it above its arguments.
+    /// The first line of its help.
     pub(crate) fn about<'a>(self) -> &'a str {
         match self {
             CommandName::Inspect =>
@@ -114,24 +157,25 @@ impl CommandName {
             CommandName::Wait =>
                 "Prints the longest wait for each page, and the item that causes it",
             CommandName::Send => "Sends a cycle again and again, with the time, to standard output",
-            CommandName::Monitor => "Judges what a receiver got of a cycle, yes or no",
+            CommandName::Monitor => "Judges whether a received feed is the cycle, yes or no",
             CommandName::Pages =>
                 "Lists the pages of a cycle, and what is sent under their headers",
             CommandName::Book => "Writes all pages of a cycle to OUT, as one HTML file",
-            CommandName::Extract => "Writes the service definition that a cycle sends to OUT",
+            CommandName::Extract =>
+                "Recovers the service definition of a cycle, and writes it to OUT",
             CommandName::Check =>
                 "Reports what is wrong, or probably wrong, in the text of a service",
             CommandName::Version =>
                 "Writes the version, and the proof kit and logic that proved it",
-            CommandName::Air => "Keeps a service on air, with its changes, to standard output",
-            CommandName::Compose => "Makes a service definition of an author's text",
-            CommandName::Decompose => "Makes an author's text of a service definition",
-            CommandName::Report => "Writes a verdict, and the wait for each page, to OUT, as HTML",
+            CommandName::Air => "Keeps a service on the air from its text, and follows its changes",
+            CommandName::Compose => "Turns an author's text into a service definition",
+            CommandName::Decompose => "Turns a service definition into an author's text",
+            CommandName::Report => "Writes the verdict and the wait for each page to OUT, as HTML",
             CommandName::Explain => "Explains a reason of a verdict, by its number or its name",
         }
     }
 
-    /// What help says of it below them, or its whole help.
+    /// Its help below the arguments, or its whole help.
     pub(crate) fn help<'a>(self) -> &'a str {
         match self {
             CommandName::Inspect => help::INSPECT_MORE,
@@ -166,59 +210,9 @@ impl CommandName {
     }
 
     /// Its arguments.
-    #[rattlefmt::skip]
     pub(crate) fn arguments<'a>(self) -> &'a [Argument]
         ensures { result.now ≡ arguments_of self }
     {
-        match self {
-            CommandName::Inspect => &[Argument::File],
-            CommandName::Plan => &[Argument::Service, Argument::Planned, Argument::Class, Argument::PlannedLate, Argument::Spread],
-            CommandName::Find => &[
-                Argument::Cycle, Argument::Service, Argument::Found, Argument::Repeat,
-                Argument::Class, Argument::Deadline, Argument::Within,
-            ],
-            CommandName::Certify => &[
-                Argument::Cycle, Argument::Service, Argument::Certificate, Argument::Late,
-                Argument::Numbers, Argument::Twice, Argument::Within, Argument::CertifyAll,
-            ],
-            CommandName::Refute => &[Argument::Cycle, Argument::Service, Argument::Certificate, Argument::Save],
-            CommandName::Replay => &[Argument::Cycle, Argument::Service, Argument::Counter],
-            CommandName::Receive => &[Argument::Cycle, Argument::Page, Argument::Lines, Argument::Start, Argument::Slots, Argument::Kind],
-            CommandName::Show => &[
-                Argument::Cycle, Argument::Page, Argument::Lines, Argument::Start,
-                Argument::Slots, Argument::Kind, Argument::Form, Argument::Reveal,
-            ],
-            CommandName::Preview => &[Argument::Service, Argument::Page, Argument::Form, Argument::Reveal],
-            CommandName::Splice => &[
-                Argument::Old, Argument::New, Argument::OldService,
-                Argument::NewService, Argument::OldCertificate, Argument::NewCertificate, Argument::Sent, Argument::SplicedLate,
-            ],
-            CommandName::Wait => &[
-                Argument::Cycle, Argument::Service, Argument::Repeat, Argument::Class, Argument::Items,
-                Argument::WaitNumbers,
-            ],
-            CommandName::Send => &[
-                Argument::Cycle, Argument::At, Argument::Fields, Argument::NeededLines,
-                Argument::Phase, Argument::Offset, Argument::Zone, Argument::Force,
-            ],
-            CommandName::Monitor => &[
-                Argument::Cycle, Argument::Service, Argument::Certificate, Argument::Feed,
-                Argument::FeedStart, Argument::MonitorAll, Argument::Every, Argument::Rows,
-            ],
-            CommandName::Pages => &[Argument::Cycle, Argument::Json],
-            CommandName::Book => &[Argument::Cycle, Argument::Book],
-            CommandName::Extract => &[Argument::Cycle, Argument::Extracted, Argument::NeededLines],
-            CommandName::Check => &[Argument::Service],
-            CommandName::Version => &[],
-            CommandName::Air => &[
-                Argument::Watched, Argument::AirWithin, Argument::Repeat, Argument::AirAt, Argument::Zone,
-                Argument::Offset, Argument::AirFields, Argument::AirLate, Argument::AtOnce,
-                Argument::Spread, Argument::AirLog, Argument::Force,
-            ],
-            CommandName::Compose => &[Argument::Author, Argument::Composed],
-            CommandName::Decompose => &[Argument::Service, Argument::Decomposed],
-            CommandName::Report => &[Argument::Cycle, Argument::Service, Argument::Certificate, Argument::Reported, Argument::Date],
-            CommandName::Explain => &[Argument::Reason],
-        }
+        ARGUMENTS[self as usize]
     }
 }

@@ -12,8 +12,8 @@ ghost use Rattle.ttx_arguments.specs.Orders.{is_standard, is_cycle_twice};
 use crate::arguments::Argument;
 use crate::command_names::CommandName;
 use crate::orders::{
-    CertifyOrder, FindOrder, MonitorOrder, Order, PlanOrder, RefuteOrder, ReplayOrder, ReportOrder,
-    SendOrder, SpliceOrder, Timing, WaitOrder, WordsFault,
+    CertifyOrder, CheckOrder, FindOrder, MonitorOrder, Order, PlanOrder, RefuteOrder, ReplayOrder,
+    ReportOrder, SendOrder, SpliceOrder, Timing, WaitOrder, WordsFault,
 };
 use crate::page_names::selection;
 use crate::ranges::Fields;
@@ -21,9 +21,10 @@ use crate::seconds::fields_of;
 use crate::timings::{clock_of, start_of};
 use crate::values::{
     class_of, deadline_of, every_of, given, given_number, is_set, lines_of, look_of, repeat_of,
-    sending_of, text_of, tuning_of,
+    replay_form_of, sending_of, text_of, tuning_of,
 };
 use clap::ArgMatches;
+use ttx_picture::Form;
 
 fn is_standard(values: &ArgMatches<'_>, argument: Argument) -> bool
     ensures { result ≡ is_standard argument (rows_of (found_of values.now)) }
@@ -83,9 +84,33 @@ pub(crate) fn show_of<'a>(values: &ArgMatches<'a>) -> Result<Order<'a>, WordsFau
     }
 }
 
+// Whether a form is that of one page.
+fn is_of_one_page(form: Form) -> bool
+    ensures { result ≡ rule.is_of_one_page form }
+{
+    matches!(form, Form::Svg | Form::Html)
+}
+
+// All pages.
+fn preview_all_of<'a>(values: &ArgMatches<'a>) -> Result<Order<'a>, WordsFault>
+    ensures { IsOrderOf result (rule.preview_all_at (rows_of (found_of values.now))) }
+{
+    let look = look_of(values);
+    if is_of_one_page(look.form) {
+        return Err(WordsFault::Forms);
+    }
+    Ok(Order::PreviewAll {
+        service: text_of(values, Argument::Service),
+        look,
+    })
+}
+
 pub(crate) fn preview_of<'a>(values: &ArgMatches<'a>) -> Result<Order<'a>, WordsFault>
     ensures { IsOrderOf result (preview_at (rows_of (found_of values.now))) }
 {
+    if is_set(values, Argument::PreviewAll) {
+        return preview_all_of(values);
+    }
     match selection(text_of(values, Argument::Page)) {
         None => Err(WordsFault::Page),
         Some(selection) => Ok(Order::Preview {
@@ -156,10 +181,11 @@ fn certify_with<'a>(values: &ArgMatches<'a>, within: Option<Fields>) -> Order<'a
         twice: is_set(values, Argument::Twice),
         within,
         all: is_set(values, Argument::CertifyAll),
+        json: is_set(values, Argument::Json),
     })
 }
 
-// The same with the requirement of these seconds, which neither late receivers nor a cycle that is read twice go with.
+// The same with a requirement in seconds, which cannot be combined with late receivers or a cycle that is read twice.
 fn certify_within<'a>(values: &ArgMatches<'a>, seconds: &str) -> Result<Order<'a>, WordsFault>
     ensures { IsOrderOf result (rule.certify_within seconds.now (rows_of (found_of values.now))) }
 {
@@ -172,7 +198,7 @@ fn certify_within<'a>(values: &ArgMatches<'a>, seconds: &str) -> Result<Order<'a
     }
 }
 
-// The same for page numbers, which go with late receivers, and not with a cycle that is read twice.
+// The same for page numbers, which require late receivers, and cannot be combined with a cycle that is read twice.
 fn certify_numbers<'a>(values: &ArgMatches<'a>) -> Result<Order<'a>, WordsFault>
     ensures { IsOrderOf result (rule.certify_numbers (rows_of (found_of values.now))) }
 {
@@ -205,6 +231,7 @@ pub(crate) fn refute_of<'a>(values: &ArgMatches<'a>) -> Order<'a>
         service: text_of(values, Argument::Service),
         certificate: text_of(values, Argument::Certificate),
         save: given(values, Argument::Save),
+        json: is_set(values, Argument::Json),
     })
 }
 
@@ -215,6 +242,7 @@ pub(crate) fn replay_of<'a>(values: &ArgMatches<'a>) -> Order<'a>
         cycle: text_of(values, Argument::Cycle),
         service: text_of(values, Argument::Service),
         counter: text_of(values, Argument::Counter),
+        form: replay_form_of(values),
     })
 }
 
@@ -243,6 +271,7 @@ pub(crate) fn wait_of<'a>(values: &ArgMatches<'a>) -> Order<'a>
         class: class_of(values),
         items: is_set(values, Argument::Items),
         numbers: is_set(values, Argument::WaitNumbers),
+        json: is_set(values, Argument::Json),
     })
 }
 
@@ -304,9 +333,11 @@ pub(crate) fn extract_of<'a>(values: &ArgMatches<'a>) -> Order<'a>
 pub(crate) fn check_of<'a>(values: &ArgMatches<'a>) -> Order<'a>
     ensures { order_view result ≡ check_at (rows_of (found_of values.now)) }
 {
-    Order::Check {
+    Order::Check(CheckOrder {
         service: text_of(values, Argument::Service),
-    }
+        long: is_set(values, Argument::Long),
+        strict: is_set(values, Argument::Strict),
+    })
 }
 
 pub(crate) fn compose_of<'a>(values: &ArgMatches<'a>) -> Order<'a>

@@ -1,4 +1,4 @@
-//! Arguments of a command that do not go together.
+//! Arguments of a command that cannot be combined.
 
 ghost use Rattle.std.specs.Prelude.{◌≡◌, ◌++◌, IfOk, OnOk, string_bytes};
 ghost use Rattle.clap.specs.Words.{rows_of, found_of};
@@ -29,11 +29,18 @@ fn conflicts<'a>(command: CommandName) -> &'a [Conflict]
             Conflict { one: Argument::CertifyAll, other: Argument::Numbers },
             Conflict { one: Argument::CertifyAll, other: Argument::Twice },
             Conflict { one: Argument::CertifyAll, other: Argument::Within },
+            Conflict { one: Argument::Json, other: Argument::Numbers },
+            Conflict { one: Argument::Json, other: Argument::Twice },
+        ],
+        CommandName::Wait => &[
+            Conflict { one: Argument::Json, other: Argument::Items },
+            Conflict { one: Argument::Json, other: Argument::WaitNumbers },
         ],
         CommandName::Monitor => &[
             Conflict { one: Argument::Rows, other: Argument::MonitorAll },
             Conflict { one: Argument::Rows, other: Argument::Every },
         ],
+        CommandName::Preview => &[Conflict { one: Argument::PreviewAll, other: Argument::SomePage }],
         CommandName::Air => &[Conflict { one: Argument::AirLate, other: Argument::AtOnce }],
         _ => &[],
     }
@@ -67,22 +74,27 @@ fn first_met(values: &ArgMatches<'_>, conflicts: &[Conflict]) -> Option<Conflict
     None
 }
 
-/// The first two arguments of a command that are given and do not go together.
+/// The first two given arguments of a command that cannot be combined.
 pub(crate) fn conflict_of(command: CommandName, values: &ArgMatches<'_>) -> Option<Conflict>
     ensures { result ≡ conflict_at command (rows_of (found_of values.now)) }
 {
     first_met(values, conflicts(command))
 }
 
-// Appends an option as it is written.
+// Appends an option as it is written, or PAGE.
 fn push_label(text: &mut String, argument: Argument) -> Result<(), AllocError>
     ensures { OnOk result (string_bytes text.new ≡ string_bytes text.old ++ label_of argument) }
 {
-    text.push_str("--")?;
-    text.push_str(argument.id())
+    match argument {
+        Argument::SomePage => text.push_str("PAGE"),
+        _ => {
+            text.push_str("--")?;
+            text.push_str(argument.id())
+        }
+    }
 }
 
-/// The line that says which arguments do not go together, with its end of line. `Err` if memory runs out.
+/// The line that says which arguments cannot be combined, with its end of line. `Err` if memory runs out.
 pub fn conflict_line(alloc: Global, conflict: Conflict) -> Result<String, AllocError>
     ensures { IfOk result (λ line. string_bytes line ≡ conflict_line conflict) }
 {

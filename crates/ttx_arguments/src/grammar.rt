@@ -14,15 +14,16 @@ use clap::builder::ValueParser;
 use clap::{Arg, ArgAction, Command};
 use std::alloc::{AllocError, Global};
 
-// A command, where memory doesn't run out.
+// A command, unless memory runs out.
 type Building<'a> = Result<Command<'a>, AllocError>;
 
-/// The names that `--kind`, `--class` and `--as` take.
+/// The names that `--kind`, `--class` and `--as` take, also that of `replay`.
 #[derive(Clone, Copy)]
 pub struct Names<'a> {
     pub kinds: &'a [&'a str],
     pub classes: &'a [&'a str],
     pub forms: &'a [&'a str],
+    pub replays: &'a [&'a str],
 }
 
 // What the value of an option has to be.
@@ -35,11 +36,12 @@ fn parser_of<'a>(takes: Takes, names: Names<'a>) -> Option<ValueParser<'a>>
         Takes::Kind => Some(ValueParser::Names(names.kinds)),
         Takes::Class => Some(ValueParser::Names(names.classes)),
         Takes::Form => Some(ValueParser::Names(names.forms)),
+        Takes::ReplayForm => Some(ValueParser::Names(names.replays)),
         _ => None,
     }
 }
 
-// An option with a value, of the argument that it is.
+// An option with a value.
 fn option_of<'a>(alloc: Global, argument: Argument, parser: Option<ValueParser<'a>>) -> Arg<'a>
     ensures rule { rule_of result ≡ option_rule (id_of argument) (is_needed argument) parser.entry }
     ensures local { result.global ≡ false }
@@ -68,6 +70,9 @@ fn argument_of<'a>(alloc: Global, argument: Argument, names: Names<'a>) -> Arg<'
             .value_name(argument.value_name())
             .help(help)
             .required(true),
+        Takes::Optional => Arg::new(alloc, id)
+            .value_name(argument.value_name())
+            .help(help),
         Takes::Nothing => Arg::new(alloc, id)
             .long(id)
             .help(help)
@@ -100,7 +105,7 @@ fn command_of<'a>(alloc: Global, name: CommandName, names: Names<'a>) -> Buildin
     Ok(command)
 }
 
-// `ttx` alone, which is given the words after its name.
+// `ttx` without its commands, for the words after its name.
 fn bare<'a>(alloc: Global) -> Building<'a>
     ensures { Builds result bare_app }
 {
@@ -130,7 +135,14 @@ fn class_names<'a>() -> &'a [&'a str]
 fn form_names<'a>() -> &'a [&'a str]
     ensures { AreNames result rule.form_names }
 {
-    &["text", "ansi", "svg", "html"]
+    &["text", "ansi", "blocks", "svg", "html"]
+}
+
+// The names that `--as` of `replay` takes.
+fn replay_names<'a>() -> &'a [&'a str]
+    ensures { AreNames result rule.replay_names }
+{
+    &["words", "text", "html"]
 }
 
 /// The names that options take.
@@ -141,6 +153,7 @@ pub(crate) fn option_names<'a>() -> Names<'a>
         kinds: kind_names(),
         classes: class_names(),
         forms: form_names(),
+        replays: replay_names(),
     }
 }
 

@@ -1,14 +1,14 @@
-//! The texts of help: what a command reads and writes, what its words are, and its statuses.
+//! The texts of help: what a command reads and writes, its arguments, and its statuses.
 
-/// The help of the program: the commands in the order of the work, and what holds for each of them.
+/// The help of the program: the commands in the order of the work, and what holds for all of them.
 pub(crate) const TTX: &str =
     "Inserter, decoder and carousel certifier for Level 1 teletext (ETSI EN 300 706)
 
 Usage: ttx <COMMAND>
 
 Write a service:
-  compose    Makes a service definition of an author's text
-  decompose  Makes an author's text of a service definition
+  compose    Turns an author's text into a service definition
+  decompose  Turns a service definition into an author's text
   check      Reports what is wrong, or probably wrong, in the text of a service
   preview    Writes a page of a service as it is displayed when received whole
 
@@ -20,13 +20,13 @@ Plan and certify:
   refute     Looks for a receiver that fails to show a page (a counter-run)
   replay     Replays a counter-run of refute, and shows where the page is wrong
   explain    Explains a reason of a verdict, by its number or its name
-  report     Writes a verdict, and the wait for each page, to OUT, as HTML
+  report     Writes the verdict and the wait for each page to OUT, as HTML
 
 Go on air:
-  air        Keeps a service on air, with its changes, to standard output
+  air        Keeps a service on the air from its text, and follows its changes
   send       Sends a cycle again and again, with the time, to standard output
   splice     Judges the change from an old cycle to a new one, yes or no
-  monitor    Judges what a receiver got of a cycle, yes or no
+  monitor    Judges whether a received feed is the cycle, yes or no
 
 Look into a packet file:
   inspect    Writes one line for each slot of a packet file to standard output
@@ -34,7 +34,7 @@ Look into a packet file:
   show       Receives a page of a cycle, and writes it as it is displayed
   receive    Receives a page of a cycle, and writes the cells that are displayed
   book       Writes all pages of a cycle to OUT, as one HTML file
-  extract    Writes the service definition that a cycle sends to OUT
+  extract    Recovers the service definition of a cycle, and writes it to OUT
 
 About ttx:
   version    Writes the version, and the proof kit and logic that proved it
@@ -51,11 +51,12 @@ Example:
 
 Without arguments, ttx runs: ttx inspect -
 
-An input named - is standard input; only one input may be. ttx opens the inputs
-in the order of the arguments, then creates or empties OUT. After a later
-refusal OUT is empty; if the arguments are refused or an input cannot be opened,
-OUT is untouched. OUT is always the name of a file, except that - is standard
-output for compose and decompose.
+An input named - is standard input. Only one input may be -, and not one that is
+read twice (certify --twice); otherwise the answer is refused: twice. ttx opens
+the inputs in the order of the arguments, then creates or empties OUT. After a
+later refusal OUT is empty; if the arguments are refused or an input cannot be
+opened, OUT is untouched. OUT is always the name of a file, except that - is
+standard output for compose and decompose.
 
 Arguments that do not go together are refused, as in
 refused: --all with --twice
@@ -95,21 +96,22 @@ planned N slots
 With --class clearing, blank rows and links are not sent.
 With --late, a time-filling header of the magazine comes between two headers of
 one page number. Receivers that show a page only when another page number ends
-it then show each page: certify --late says yes to the certificate of find.
+it then show every page: certify --late accepts the certificate that find makes.
 
 The cycle has eight rounds, and a page with often N is sent in N of them.
 Without --spread every page is sent in the first round, which is then the
-longest. With --spread the rounds are of like length, so a page that is sent
-often comes at regular intervals; and a page that has within in SERVICE, and no
-often, is sent as often as that takes. The subpages of a number, one of which
-has stays, come once each in a cycle, in turn, and the other pages between them
-as often as that takes. If it is not possible, OUT stays empty, and there is a
-line for each page that comes too late, or for each number that stays too short:
+longest. With --spread the rounds are about equally long, so a page that is sent
+often comes at regular intervals; and a page with the key within and without the
+key often is sent as often as within requires. If a subpage has the key stays,
+each subpage of its number is sent once in a cycle, in turn, and the other pages
+are repeated between them until each stays long enough. If that cannot be done,
+OUT stays empty, and there is a line for each page that comes too late, or for
+each number whose subpages stay too short a time:
   late PAGE F fields of G   PAGE is seen after up to F fields; its within is G
                             fields
-  stays MPP F fields of G   subpages of MPP stay F fields; stays is G fields
-  unseen PAGE, never-shown PAGE SLOT   with these turns not every receiver, or
-                                       no late one, would show PAGE
+  stays MPP F fields of G   a subpage of MPP stays F fields; stays is G fields
+  unseen PAGE, never-shown PAGE SLOT   in such a cycle some receiver, or some
+                                       late one, would never show PAGE
 
 Statuses:
   0  done
@@ -143,8 +145,8 @@ Statuses:
   3  fault: file, fault: read, fault: write, fault: memory
 
 What found means: certify says yes to CYCLE, SERVICE and OUT. Without --deadline
-and --within, no certificate for these receivers and this K has a smaller
-deadline.
+and --within, certify accepts no certificate with a smaller deadline for these
+receivers and this K.
 What it does not mean: that D fields are short enough for viewers (wait has the
 time for each page), or that receivers that show a page late show it in time
 (certify --late). What a yes means is at the end of ttx certify --help.";
@@ -164,29 +166,29 @@ If after a header of a page the next header in its magazine has the same page
 number, the verdict is, if there is no other reason,
   no 13 never-shown PAGE SLOT
                      the first such header
-With --numbers, which goes with --late alone, a yes means also that viewers who
-key a page number with several pages see each of them in turn, whole, if their
-receivers show a page only when another page number ends it and all text is
-received right. A line follows for each such number:
+--numbers requires --late. A yes then also means: if several pages have one page
+number, viewers who key only this number see each of these pages in turn, whole,
+as long as their receivers show a page only when another page number ends it and
+all text is received right. A line follows for each such number:
   number MPP pages N every E slots stays S
-                     within E slots after tuning each of the N pages is shown,
-                     within E slots it is shown again, and for S slots at least
+                     each of the N pages is shown within E slots after tuning,
+                     and again within E slots, for at least S slots each time
 Otherwise the verdict is, if there is no other reason, one of
   no 14 unwhole PAGE ITEM SLOT
                      after the header in slot SLOT, ITEM of PAGE does not come
                      before the page may end
   no 15 unlisted MPP SLOT
-                     the header in slot SLOT is of the number, and of no page of
-                     SERVICE
+                     the header in slot SLOT has the number, but belongs to no
+                     page of SERVICE
 --within cannot be combined with --late or --twice. With it, a yes also means
 that pages are seen within SECONDS. Otherwise the answer is, if there is no
 other reason, one of
   no lines L of M
-                     CERT counts fields of L lines, and SERVICE has M
+                     CERT has L lines in a field, and SERVICE has M
   no deadline D of E
                      CERT promises D fields, and SECONDS are E fields
-With --all, the verdict is followed by a line for each page of which a reason is
-true, with its first reason, in the order of SERVICE; the last line counts them:
+With --all, a line follows the verdict for each page that has a reason, with the
+first one, in the order of SERVICE; the last line counts them:
   reasons M pages N
 
 Statuses:
@@ -196,6 +198,7 @@ Statuses:
      refused: within (with --late or --twice),
      refused: numbers (without --late, or with --within or --twice),
      refused: --all with .. (--late, --numbers, --twice or --within),
+     refused: --json with .. (--numbers or --twice),
      refused: twice, refused: cycle NUMBER NAME [REST],
      refused: service NUMBER NAME [KEY] page N, refused: service too-long,
      refused: certificate NUMBER NAME [line N], refused: certificate too-long
@@ -210,7 +213,8 @@ may show anything.
 What it does not mean: that all sets keep the rules, or that reception is so
 good. It promises nothing for pages that SERVICE lacks, nor once another cycle
 is sent (see splice).
-A no does not mean that a viewer is failed; refute looks for one.";
+A no does not prove that any viewer sees a wrong page; refute looks for one who
+does.";
 
 pub(crate) const LATE_OPTION: &str = "Judge also for receivers that may show a page late";
 
@@ -239,12 +243,12 @@ Statuses:
 
 What a counter-run means: the rules of the standard allow this receiver and this
 reception, and the page that it shows is wrong. So no certificate with these
-numbers is accepted. It does not mean that there is such a set, or how often
-reception is like that.
+numbers is accepted. It does not mean that such a set exists, nor does it say
+how often reception is like that.
 What none means: if all pages are sent unchanged in clean slots, certify says
 yes to some certificate with these numbers; find writes one. It does not mean
 that certify says yes to CERT. If a page is not sent unchanged, or a slot is not
-clean, none leaves open whether a viewer is failed.";
+clean, none does not tell whether any viewer sees a wrong page.";
 
 pub(crate) const REPLAY_MORE: &str =
     "Reads CYCLE, SERVICE and COUNTER, in this order, to their ends. If COUNTER is a
@@ -257,6 +261,12 @@ ignoring columns 0 to 7 and 32 to 39 of row 0:
   page row R ..   the row of the page
 and two lines for the links if they differ: shown links .. and page links ..
 Otherwise writes: not a counter-run
+
+FORM is how a counter-run is shown:
+  words  as above
+  text   what happened, in sentences, and then the page as authored beside what
+         the receiver shows, with a mark at each row that differs
+  html   the same, as an HTML page
 
 Statuses:
   0  a counter-run
@@ -290,11 +300,12 @@ pub(crate) const SHOW_MORE: &str =
     "Reads CYCLE to its end. A receiver with an empty memory is set to PAGE and
 receives N slots from slot S on, round the cycle. Then the page is written in
 the form FORM:
-  text  25 lines of characters, and a line with the six links (MPP, MPP/SSSS,
-        or - for none)
-  ansi  the same, with terminal codes for colours and flashing
-  svg   a picture of 40 by 25 cells
-  html  a page with the picture, its links, and its text
+  text    25 lines of characters, and a line with the six links (MPP, MPP/SSSS,
+          or - for none)
+  ansi    the same, with terminal codes for colours and flashing
+  blocks  the same for terminals without sextants: half blocks and quadrants
+  svg     a picture of 40 by 25 cells
+  html    a page with the picture, its links, and its text
 In text and ansi, contiguous mosaics are sextants, separated ones are Braille
 patterns, and double height takes two lines. Concealed characters are spaces
 without --reveal. If no header of the page comes, writes: no page PAGE
@@ -314,22 +325,26 @@ Statuses:
 pub(crate) const PREVIEW_MORE: &str =
     "Reads SERVICE to its end. Then the first page that PAGE names is written in the
 form FORM:
-  text  25 lines of characters, and a line with the six links (MPP, MPP/SSSS,
-        or - for none)
-  ansi  the same, with terminal codes for colours and flashing
-  svg   a picture of 40 by 25 cells
-  html  a page with the picture, its links, and its text
+  text    25 lines of characters, and a line with the six links (MPP, MPP/SSSS,
+          or - for none)
+  ansi    the same, with terminal codes for colours and flashing
+  blocks  the same for terminals without sextants: half blocks and quadrants
+  svg     a picture of 40 by 25 cells
+  html    a page with the picture, its links, and its text
 The header clock and columns 0 to 7 of row 0 are spaces. Concealed characters
 are spaces without --reveal. If the service has no such page, writes:
 no page PAGE
+With --all, each page is written in the form text, ansi or blocks, behind a line
+with its id (MPP/SSSS).
 SERVICE may be an author's text (see compose), if its first key is author = 1.
-Its mistakes have the lines of compose.
+If the text is refused, writes the line of check, or for an author's text those
+of compose.
 
 Statuses:
   0  done
   1  the service has no such page
-  2  the author's text has mistakes; also error: .. (the arguments),
-     refused: page, refused: service NUMBER NAME [KEY] page N and
+  2  the text is refused; also error: .. (the arguments), refused: page,
+     refused: --all with PAGE, refused: forms (--all with --as svg or html) and
      refused: service too-long on standard error
   3  fault: file, fault: read, fault: write, fault: memory";
 
@@ -367,7 +382,7 @@ NEWCERT, in this order, to their ends. Writes the verdict to standard output:
                             right from D fields after tuning, through the change
                             and ever after; each other new page from D fields
                             after tuning or the change
-  no 1 old NUMBER NAME ..   OLD is not accepted, for the reason that certify has
+  no 1 old NUMBER NAME ..   OLD is not accepted; the reason is that of certify
   no 2 new NUMBER NAME ..   NEW is not accepted
   no 3 numbers              lines, repeat or deadline of the certificates
                             differ, or one is of class clearing
@@ -385,10 +400,10 @@ NEWCERT, in this order, to their ends. Writes the verdict to standard output:
                             PAGE of OLD is missing, or has its page number
 
 With --late, receivers may show a page only where another page number ends it.
-A yes then means also: for each page number that both cycles send whole, as
-certify --late --numbers says and as plan sends it, once a page that began after
-tuning has ended, such a receiver shows a page of OLDSERVICE or of NEWSERVICE,
-whole, at every time, if all text is received right.
+A yes then also means, for each page number that both cycles send whole, as plan
+does and as certify --late --numbers requires: such a receiver always shows a
+page of OLDSERVICE or of NEWSERVICE, whole, once a page that began after tuning
+has ended, if all text is received right.
 
 With --sent, OLD may itself have begun with a change. If the answer to each
 change of a service is yes, each page is seen right from D fields after tuning,
@@ -403,9 +418,9 @@ Statuses:
      refused: certificate NUMBER NAME [line N], refused: certificate too-long
   3  fault: file, fault: read, fault: write, fault: memory
 
-What a yes means: what is said of it above, for the receivers and the reception
-of which certify speaks (see the end of ttx certify --help), if slot 0 of NEW
-follows the last slot of a period of OLD.
+A yes holds for the receivers and the reception that certify assumes (see the
+end of ttx certify --help), if slot 0 of NEW follows the last slot of a period
+of OLD.
 What it does not mean: that a page that the change alters or adds is seen before
 D fields have passed, that a page that it drops is still seen, or that the
 change may be made in another slot.";
@@ -419,7 +434,7 @@ page, in the order of SERVICE, one of
   PAGE never ITEM sent N near A cut B
       no deadline is enough: of the N packets of ITEM in a period, A come at
       most as many slots after their header as a field has lines, and B come
-      later but cut off by another magazine
+      later, but after a header of another magazine that may end the page
   PAGE never REASON [SLOT]
       the page is not sent unchanged: no-header, other-subpage, erased,
       head-differs, row-differs or links-differ, at the first such slot
@@ -431,8 +446,8 @@ for each item that a viewer sees, one of
       no deadline is enough for it
 The last line is one of
   all F fields S s         the deadline for all pages
-  all never                a page has none
-  all never bad-slot SLOT  the first slot that is not clean: nothing is
+  all never                some page has no deadline
+  all never bad-slot SLOT  the first slot that is not clean: no page is
                            certified
 
 If pages have within in SERVICE, and without --items, the line of such a page is
@@ -443,20 +458,20 @@ one of
 and after the line of all pages comes, if CYCLE has pages that SERVICE lacks,
   not in the service: PAGE ..
 
-With --numbers, the last lines are of the page numbers with several pages, in
+With --numbers, a line for each page number with several pages comes last, in
 the order of their first pages, each one of
   MPP N subpages, each at least S s, again within T s
       a receiver that shows a page where it ends, and is set to the number,
-      shows each of its N pages for S seconds or longer, and again after at
-      most T seconds from its start to its next
+      shows each of its N pages for at least S seconds each time, and begins to
+      show it again at most T seconds after it last began
   MPP N subpages, not all sent
       CYCLE has no header of one of them
 
 Statuses:
-  0  there is a deadline for all pages, and none is too late
+  0  there is a deadline for all pages, and no page is too late
   1  there is none, or a page is too late
-  2  error: .. (the arguments), refused: twice,
-     refused: cycle NUMBER NAME [REST],
+  2  error: .. (the arguments), refused: --json with .. (--items or --numbers),
+     refused: twice, refused: cycle NUMBER NAME [REST],
      refused: service NUMBER NAME [KEY] page N, refused: service too-long
   3  fault: file, fault: read, fault: write, fault: memory";
 
@@ -472,8 +487,8 @@ pub(crate) const SEND_MORE: &str =
     "Reads CYCLE to its end. Writes N fields of L slots of 42 bytes each: the cycle
 again and again, from its field F on. The first field is sent at TIME, and each
 second has 50 fields. Each page header shows the clock, and each packet 8/30
-format 1 has the date and time in UTC. Everything else is sent as it is in
-CYCLE, also the offset in packets 8/30. An empty slot is written as 42 zero
+format 1 has the date and time in UTC and, with --zone, the offset of the zone.
+Everything else is sent as it is in CYCLE. An empty slot is written as 42 zero
 bytes; the sender must leave that line without a packet.
 
 TIME is one of
@@ -488,9 +503,9 @@ TIME is one of
 
 The clock in page headers is UTC, unless there is --zone or --offset. With
 --zone it keeps the rules of the time zone, summer time included, as they stand
-in the files below /usr/share/zoneinfo, or below TZDIR if that is set. A time
-that the clock shows twice is the earlier one; one that it skips counts by the
-offset before.
+in the files below /usr/share/zoneinfo, or below TZDIR if that is set. If the
+clock shows a TIME twice, the earlier moment is meant; if it skips TIME, the
+offset before the change counts.
 
 A yes of certify also holds for what send writes, if L is the number of lines in
 the certificate.
@@ -507,10 +522,10 @@ Statuses:
 
 pub(crate) const MONITOR_MORE: &str =
     "Reads CYCLE, SERVICE and CERT, in this order, to their ends, and then FEED slot
-by slot; memory does not grow with FEED. FEED is what a receiver got of CYCLE,
-sent again and again: slots of 42 bytes from any slot of CYCLE on, an empty line
-as 42 zero bytes. Reads to the end of FEED, or to the first slot that breaks the
-error rule. Writes the verdict to standard output, one of
+by slot; memory does not grow with FEED. FEED is what a receiver got while CYCLE
+was sent again and again: slots of 42 bytes from any slot of CYCLE on, an empty
+line as 42 zero bytes. Reads to the end of FEED, or to the first slot that
+breaks the error rule. Writes the verdict to standard output, one of
   yes start S slots N wrong B streak W
       FEED begins with slot S of CYCLE and has N slots; B bytes were wrong, and
       no text byte in more than W successive transmissions
@@ -523,7 +538,10 @@ error rule. Writes the verdict to standard output, one of
   no repeat PAGE ITEM byte X slot I start S
       this text byte was wrong in K successive transmissions, at last in slot I
   no slot I shifted by J start S
-      from slot I on, J slots of CYCLE are missing, or -J too many
+      slot I and most slots of the next period do not fit, but J slots further
+      on in CYCLE most do: a recorder lost J slots, or inserted -J
+  no slots: WORDS
+      FEED is no sequence of slots; WORDS say what it seems to be
 A yes is followed by the line
   rest R bytes
       if R bytes, fewer than a slot has, come after the last slot
@@ -538,14 +556,23 @@ deadline on.
 Without --start, S is the slot with which the fewest slots of the first period
 of FEED differ from CYCLE, the first of several.
 
-With --all, FEED is judged to its end, and each breach of the rule has a line.
-With --every, there is a line of state after every FIELDS fields, for logs.
+With --all, FEED is judged to its end, and each breach of the rule has a line as
+above, without start S. The last lines are then yes .. or
+  no start S slots N wrong B streak W breaches X
+      at X slots the rule was broken, or the feed shifted
+then rest if there is one, and
+  total lost L bits E minute lost M bits F
+      L packets were lost and E bits wrong in all, M and F in 3,000 fields on
+      average
+With --every, there is a line of state after every FIELDS fields, for logs:
+  slots N wrong B streak W lost L
 
-With --rows, the rule is that by rows, for receivers that refuse a row with a
-wrong byte. A packet may be lost, except page headers and X/27/0 of a magazine
-of SERVICE. Of K successive transmissions of a row that a viewer sees, at least
-one is received whole. A yes means that each such receiver shows each page, and
-the text of its header too if the latest headers come right. The lines are then
+With --rows, the error rule by rows is judged, for receivers that refuse a row
+with a wrong byte. A packet may be lost, except page headers and X/27/0 of a
+magazine of SERVICE. Of K successive transmissions of a row that a viewer sees,
+at least one is received whole. A yes means that each such receiver shows each
+page, and the text of its header too if its latest header came right. The lines
+are then
   yes start S slots N lost L
       L packets were lost
   no repeat PAGE row R slot I start S
@@ -626,7 +653,7 @@ Statuses:
      refused: service NUMBER NAME [KEY] page N (what is sent is not a service; N
      counts its pages in order),
      refused: service too-long,
-     refused: unsaid (it is not a service for another reason)
+     refused: unsaid (no service text says what is sent, for another reason)
   3  fault: file, fault: read, fault: write, fault: memory";
 
 pub(crate) const CHECK_MORE: &str =
@@ -641,8 +668,18 @@ ok:
 PLACE is service, info, magazine M, or page MPP/SSSS and its key; a page without
 an id is named by its position.
 
+With --long or to a terminal, writes all mistakes, at most 100, each followed by
+its line of SERVICE and a caret below the character that is meant; then how many
+there are:
+  FILE:L:C: error: PLACE: WORDS
+  FILE:L:C: warning: PLACE: WORDS
+  M errors, N warnings
+SERVICE may be an author's text (see compose), if its first key is author = 1:
+all its mistakes have such lines, without --long not followed by others.
+
 Statuses:
   0  the text is accepted
+  1  with --strict: the text is accepted, with a warning
   2  the text is refused; also error: .. (the arguments) and
      refused: service too-long on standard error
   3  fault: file, fault: read, fault: write, fault: memory";
@@ -705,6 +742,18 @@ pub(crate) const PAGE_OPERAND: &str = "Page: MPP for any subpage, or MPP/SSSS fo
 other digits are 0 to 9 and A to F, PP is not FF, SSSS is 0000
 to 3F7E, its third digit at most 7";
 
+pub(crate) const SOME_PAGE_OPERAND: &str =
+    "Page: MPP for any subpage, or MPP/SSSS for one; M is 1 to 8,
+other digits are 0 to 9 and A to F, PP is not FF, SSSS is 0000
+to 3F7E, its third digit at most 7; not with --all";
+
+pub(crate) const PREVIEW_ALL_OPTION: &str = "Write each page of the service, in its order";
+
+pub(crate) const LONG_OPTION: &str = "Write all mistakes, each with the line that it is in; so it
+is also if standard output is a terminal";
+
+pub(crate) const STRICT_OPTION: &str = "End with status 1 if there is a warning";
+
 pub(crate) const CLASS_OPTION: &str = "Receivers to serve: any, or those that surely clear a
 page when they are set to it
 [default: any]";
@@ -725,8 +774,12 @@ page [default: 5000]";
 pub(crate) const KIND_OPTION: &str = "Receiver: which of its choices it takes, see below
 [default: eager]";
 
-pub(crate) const FORM_OPTION: &str = "How the page is written, see below
-[default: ansi]";
+pub(crate) const FORM_OPTION: &str = "How the page is written, see below; without it, ansi if
+standard output is a terminal and NO_COLOR isn't set, else
+text";
+
+pub(crate) const REPLAY_FORM_OPTION: &str = "How a counter-run is shown, see below
+[default: words]";
 
 pub(crate) const REVEAL_OPTION: &str = "Show concealed characters";
 
@@ -765,10 +818,10 @@ pub(crate) const FORCE_OPTION: &str = "Write packets also to a terminal";
 pub(crate) const AIR_MORE: &str =
     "Plans SERVICE and certifies its cycle, then writes the cycle again and again, in
 slots of 42 bytes, with the time, as send does. The reader of standard output
-sets the pace. Of the W fields in SECONDS, the certificates have D, and late
-receivers the others for their gap, in the proportion in which the first text
-needs them; all later texts get the same. If the first one needs more, nothing
-is sent, and the refusal names the pages that are too slow.
+sets the pace. SECONDS are W fields: the deadline D of all certificates, and for
+late receivers the gap after it, in the proportion that the first text needs;
+all later texts get the same. If the first one needs more, nothing is sent, and
+the refusal names the pages that are too slow.
 
 At the end of a period, once the pages have been sent for D fields, and at most
 once a second, ttx looks whether SERVICE has another text. It plans and
@@ -789,20 +842,21 @@ what the clock shows:
       the old pages stay; WORDS are a line of check, plan or splice, or
       late PAGE F fields of D, ..  these pages would come too late
       no 8 too-far SLOTS           the next page header would come too late
-      no 9 unfollowed PAGE         as with splice --late
+      no 7 amid PAGE SLOT, no 8 stored PAGE SLOT, no 9 unfollowed PAGE
+                                   as with splice --late
       out of memory
   field F TIME kept: the text cannot be read
       or it is too long; the line comes once, until the text can be read again
   field N TIME end
       all fields were sent
 
-TIME and --offset are as those of send. Without --at it is now. Each ZONE is
-refused so far: refused: zone
+TIME, --offset and --zone are as those of send. Without --at it is now.
 
 Statuses:
   0  N fields are sent
   2  error: .. (the arguments), refused: seconds, refused: time,
-     refused: clocks (--zone and --offset), refused: zone,
+     refused: clocks (--zone and --offset),
+     refused: zone (there is no such time zone),
      refused: --late with --at-once, refused: same (FILE is SERVICE),
      refused: terminal (packets would go to a terminal, without --force),
      refused: line .. (as ttx check says it), refused: service too-long,
@@ -844,12 +898,13 @@ has mistakes, OUT stays empty, and each of the first 100 has a line in place of
 the one above, with lines and columns from 1; then comes their number:
 FILE:LINE:COLUMN: error: ..
 N mistakes
+If there are none but it is no service, the lines are those of check.
 
 Statuses:
   0  composed
-  1  the text has mistakes
+  1  the text has mistakes, or is no service
   2  error: .. (the arguments), refused: same (OUT is AUTHOR),
-     refused: service NUMBER NAME [KEY] page N, refused: service too-long
+     refused: service too-long
   3  fault: file, fault: read, fault: write, fault: memory";
 
 pub(crate) const AUTHOR_OPERAND: &str = "Author's text: a TOML text of at most 4194304 bytes;
@@ -867,7 +922,7 @@ compose makes the same service of it again. Comments are left out.
 
 Statuses:
   0  done
-  1  there is no author's text, as of a service with the key author
+  1  there is no author's text, for example if SERVICE has the key author
   2  error: .. (the arguments), refused: same (OUT is SERVICE),
      refused: service NUMBER NAME [KEY] page N, refused: service too-long
   3  fault: file, fault: read, fault: write, fault: memory";

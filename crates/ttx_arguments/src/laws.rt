@@ -1,14 +1,14 @@
-//! What some words ask for, computed from the definitions: examples that hold the grammar and the orders to what a user types.
+//! What some command lines ask for, computed from the definitions: examples that compare the grammar and the orders with what a user types.
 
-ghost use Rattle.ttx_arguments.specs.Examples.{VersionWords, CertifyWords, SendWords, PlanWords, SecondsTexts, FindWords, RepeatWords, SpliceWords, WaitWords, MonitorWords, ExplainWords, AirWords, ComposeWords, TwiceWords};
+ghost use Rattle.ttx_arguments.specs.Examples.{VersionWords, CertifyWords, SendWords, PlanWords, SecondsTexts, FindWords, RepeatWords, SpliceWords, WaitWords, MonitorWords, ExplainWords, AirWords, ComposeWords, TwiceWords, RefuteWords, ReplayWords, PreviewWords, CheckWords};
 
 /// `--version` and `-V` ask for the version, also before other words.
 pub fn version_words()
     ensures { VersionWords }
 {}
 
-/// `certify` with `--late` asks for the verdict on late receivers, and not to read the cycle twice; half a second is 25 fields, and goes
-/// with neither `--twice` nor `--late`; `--numbers` goes with `--late` alone, and `--all` goes alone.
+/// `certify` with `--late` asks for the verdict on late receivers, and not to read the cycle twice; half a second is 25 fields, and is refused
+/// with neither `--twice` nor `--late`; `--numbers` goes with `--late` alone, and `--all` with `--json` alone.
 pub fn certify_words()
     ensures { CertifyWords }
 {}
@@ -29,7 +29,7 @@ pub fn seconds_texts()
     ensures { SecondsTexts }
 {}
 
-/// `find` takes a deadline in fields or in seconds, and not in both.
+/// `find` takes a deadline in fields or in seconds, but not both.
 pub fn find_words()
     ensures { FindWords }
 {}
@@ -39,25 +39,45 @@ pub fn repeat_words()
     ensures { RepeatWords }
 {}
 
-/// `splice` takes the periods for which OLD has been on the air, and no number of them is not 0; and `--late`.
+/// `splice` takes the periods for which OLD has been on the air (no number is not the same as 0), and `--late`.
 pub fn splice_words()
     ensures { SpliceWords }
 {}
 
-/// `wait` takes `--items` and `--numbers`, alone and together.
+/// `wait` takes `--items` and `--numbers`, alone and together, and `--json` alone.
 pub fn wait_words()
     ensures { WaitWords }
 {}
 
-/// `monitor` takes the slot with which the feed begins, and no slot is not 0; the feed is an input. `--all` and `--every` go together, and with neither
-/// goes `--rows`.
+/// `monitor` takes the slot with which the feed begins (none is not 0); the feed is an input. `--all` and `--every` go together, but neither
+/// with `--rows`.
 pub fn monitor_words()
     ensures { MonitorWords }
+{}
+
+/// `refute` takes a file for the counter-run, and `--json`.
+pub fn refute_words()
+    ensures { RefuteWords }
+{}
+
+/// `preview` takes a page or `--all`, not both and not neither.
+pub fn preview_words()
+    ensures { PreviewWords }
+{}
+
+/// `check` takes `--long` and `--strict`.
+pub fn check_words()
+    ensures { CheckWords }
 {}
 
 /// `explain` takes a reason, and `pages` an option without a value.
 pub fn explain_words()
     ensures { ExplainWords }
+{}
+
+/// `replay` writes words if nothing else is asked for.
+pub fn replay_words()
+    ensures { ReplayWords }
 {}
 
 /// `air` begins now, has no end and is late unless the words say otherwise; it takes the seconds within which pages are seen.

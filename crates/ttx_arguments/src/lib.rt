@@ -1,4 +1,4 @@
-//! The words after the name of the program `ttx`: what they ask for, and why they are refused.
+//! The command line of `ttx`: what it asks for, and why it is refused.
 #![tactic(auto)]
 
 mod airings;
@@ -20,14 +20,15 @@ mod values;
 
 pub use conflicts::{Conflict, conflict_line};
 pub use laws::{
-    air_words, certify_words, compose_words, explain_words, find_words, monitor_words, plan_words,
-    repeat_words, seconds_texts, send_words, splice_words, twice_words, version_words, wait_words,
+    air_words, certify_words, check_words, compose_words, explain_words, find_words, monitor_words,
+    plan_words, preview_words, repeat_words, seconds_texts, send_words, splice_words, twice_words,
+    version_words, wait_words,
 };
 pub use moments::Moment;
 pub use orders::{
-    AirOrder, CertifyOrder, Clock, FindOrder, Look, MonitorOrder, Order, PlanOrder, ReceiverKind,
-    RefuteOrder, ReplayOrder, ReportOrder, SendOrder, Sending, SpliceOrder, Start, Timing, Tuning,
-    WaitOrder, WordsFault,
+    AirOrder, CertifyOrder, CheckOrder, Clock, FindOrder, Look, MonitorOrder, Order, PlanOrder,
+    ReceiverKind, RefuteOrder, ReplayForm, ReplayOrder, ReportOrder, SendOrder, Sending,
+    SpliceOrder, Start, Timing, Tuning, WaitOrder, WordsFault,
 };
 pub use parsing::words;
 pub use ranges::{Fields, Lines, Offset, Repeat};

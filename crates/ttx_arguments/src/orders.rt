@@ -1,4 +1,7 @@
-//! What words ask for, and why they are refused.
+//! What a command line asks for, and why it is refused.
+
+ghost use Rattle.std.specs.Prelude.{◌≡◌};
+ghost use Rattle.ttx_arguments.specs.Orders.{look_view, look_seen, seen_form};
 
 use crate::conflicts::Conflict;
 use crate::moments::Moment;
@@ -14,7 +17,7 @@ pub enum ReceiverKind {
     Cleared,
 }
 
-/// What `receive` is told beside the cycle.
+/// The receiver that `receive` simulates, and the slots that it gets.
 #[derive(Clone, Copy)]
 pub struct Tuning {
     pub selection: Selection,
@@ -29,11 +32,32 @@ pub struct Tuning {
 /// How a page is shown.
 #[derive(Clone, Copy)]
 pub struct Look<'a> {
-    /// The name by which it is asked for.
+    /// The name by which it is asked for; with `--all` none.
     pub page: &'a str,
     pub form: Form,
+    /// Whether the form is asked for.
+    pub given: bool,
     /// Whether concealed characters are shown.
     pub reveal: bool,
+}
+
+impl<'a> Look<'a> {
+    /// The same where colours are shown or not: where they are not, a form that is not asked for is text.
+    pub fn seen(self, colours: bool) -> Look<'a>
+        ensures { look_view result ≡ look_seen colours (look_view self.entry) }
+    {
+        Look {
+            form: seen_form(self.given, colours, self.form),
+            ..self
+        }
+    }
+}
+
+// A form that is asked for, or that of an output.
+fn seen_form(given: bool, colours: bool, form: Form) -> Form
+    ensures { result ≡ seen_form given colours form }
+{
+    if given || colours { form } else { Form::Text }
 }
 
 /// When the first field is sent.
@@ -50,7 +74,7 @@ pub enum Start<'a> {
 /// The clock in page headers.
 #[derive(Clone, Copy)]
 pub enum Clock<'a> {
-    /// It is ahead of UTC by so much, all the year.
+    /// It is ahead of UTC by so much, all year round.
     Ahead(Offset),
     /// It keeps the rules of the time zone of this name.
     Zone(&'a str),
@@ -89,9 +113,9 @@ pub struct PlanOrder<'a> {
     pub service: &'a str,
     pub out: &'a str,
     pub class: Class,
-    /// For receivers that may show pages late, too.
+    /// Also for receivers that may show pages late.
     pub late: bool,
-    /// Whether pages that are sent often come at even times, and pages with a promise as often as that takes.
+    /// Whether the copies of a page are spread evenly, and pages with a promise are sent as often as it requires.
     pub spread: bool,
 }
 
@@ -113,9 +137,9 @@ pub struct CertifyOrder<'a> {
     pub cycle: &'a str,
     pub service: &'a str,
     pub certificate: &'a str,
-    /// For receivers that may show pages late, too.
+    /// Also for receivers that may show pages late.
     pub late: bool,
-    /// For viewers who key a page number alone, too; only with `late`.
+    /// Also for viewers who key only a page number; only with `late`.
     pub numbers: bool,
     /// Whether the cycle is read twice, slot by slot; not with `late`.
     pub twice: bool,
@@ -123,6 +147,8 @@ pub struct CertifyOrder<'a> {
     pub within: Option<Fields>,
     /// Whether each page has a line with its first reason; not with `late`, `twice` or `within`.
     pub all: bool,
+    /// Whether the answer is written as JSON; not with `numbers` or `twice`.
+    pub json: bool,
 }
 
 /// What `refute` is asked for.
@@ -133,6 +159,19 @@ pub struct RefuteOrder<'a> {
     pub certificate: &'a str,
     /// The file that the counter-run goes to.
     pub save: Option<&'a str>,
+    /// Whether the answer is written as JSON.
+    pub json: bool,
+}
+
+/// How a counter-run is shown.
+#[derive(Clone, Copy)]
+pub enum ReplayForm {
+    /// The cells of each row that differs, a word each.
+    Words,
+    /// What happened, and the page as authored beside what is shown, in characters.
+    Text,
+    /// The same as an HTML page.
+    Html,
 }
 
 /// What `replay` is asked for.
@@ -141,6 +180,7 @@ pub struct ReplayOrder<'a> {
     pub cycle: &'a str,
     pub service: &'a str,
     pub counter: &'a str,
+    pub form: ReplayForm,
 }
 
 /// What `splice` is asked for.
@@ -152,9 +192,9 @@ pub struct SpliceOrder<'a> {
     pub new_service: &'a str,
     pub old_certificate: &'a str,
     pub new_certificate: &'a str,
-    /// For how many whole periods OLD has been on the air; without it nothing is asked of how long it has been.
+    /// For how many whole periods OLD has been on the air; without it, for any time.
     pub sent: Option<u32>,
-    /// For receivers that show a page only where it ends, too.
+    /// Also for receivers that show a page only where it ends.
     pub late: bool,
 }
 
@@ -169,6 +209,8 @@ pub struct WaitOrder<'a> {
     pub items: bool,
     /// Whether each number with several pages has a line, too.
     pub numbers: bool,
+    /// Whether the answer is written as JSON; not with `items` or `numbers`.
+    pub json: bool,
 }
 
 /// What `monitor` is asked for.
@@ -183,7 +225,7 @@ pub struct MonitorOrder<'a> {
     pub start: Option<u32>,
     /// Whether the feed is judged to its end, and each breach has a line.
     pub all: bool,
-    /// After so many fields there is a line of state, again and again; without it, none.
+    /// Every so many fields there is a line of state; without it, none.
     pub every: Option<Fields>,
     /// Whether the rule by rows is asked for; not with `all` or `every`.
     pub rows: bool,
@@ -200,6 +242,16 @@ pub struct ReportOrder<'a> {
     pub date: Option<&'a str>,
 }
 
+/// What `check` is asked for.
+#[derive(Clone, Copy)]
+pub struct CheckOrder<'a> {
+    pub service: &'a str,
+    /// Whether each line is followed by the line of the text that is meant.
+    pub long: bool,
+    /// Whether a warning makes the status 1.
+    pub strict: bool,
+}
+
 /// What `air` is asked for.
 #[derive(Clone, Copy)]
 pub struct AirOrder<'a> {
@@ -211,7 +263,7 @@ pub struct AirOrder<'a> {
     pub timing: Timing<'a>,
     /// How many fields are sent; without it, there is no end.
     pub fields: Option<u32>,
-    /// For receivers that may show pages late, too.
+    /// Also for receivers that may show pages late.
     pub late: bool,
     pub spread: bool,
     /// The file that the log goes to, too.
@@ -233,9 +285,9 @@ pub enum Order<'a> {
     Find(FindOrder<'a>),
     /// Judge a cycle by a certificate.
     Certify(CertifyOrder<'a>),
-    /// Look for a viewer whom a cycle fails.
+    /// Look for a receiver that fails to show a page.
     Refute(RefuteOrder<'a>),
-    /// Show what is shown after a counter-run.
+    /// Show where the page is wrong after a counter-run.
     Replay(ReplayOrder<'a>),
     /// Show what a receiver holds of a page.
     Receive {
@@ -254,19 +306,24 @@ pub enum Order<'a> {
         selection: Selection,
         look: Look<'a>,
     },
+    /// Show all pages of a service before they are sent.
+    PreviewAll {
+        service: &'a str,
+        look: Look<'a>,
+    },
     /// Judge the change from an old cycle to a new one.
     Splice(SpliceOrder<'a>),
-    /// Tell how long viewers of each page of a service wait.
+    /// Report how long viewers of each page of a service wait.
     Wait(WaitOrder<'a>),
     /// Send a cycle again and again, with the time.
     Send(SendOrder<'a>),
-    /// Keep a service on the air, with its changes.
+    /// Keep a service on the air from its text, and follow its changes.
     Air(AirOrder<'a>),
-    /// Judge what a receiver got of a cycle.
+    /// Judge whether a received feed is a cycle.
     Monitor(MonitorOrder<'a>),
     /// Write a report of a verdict.
     Report(ReportOrder<'a>),
-    /// Tell which pages a cycle has.
+    /// List the pages of a cycle.
     Pages {
         cycle: &'a str,
         /// Whether the answer is written as JSON.
@@ -283,16 +340,14 @@ pub enum Order<'a> {
         out: &'a str,
         lines: Lines,
     },
-    /// Tell what is wrong, or likely wrong, in the text of a service.
-    Check {
-        service: &'a str,
-    },
-    /// Make a service text of an author's text. `-` as `out` is standard output.
+    /// Report what is wrong, or probably wrong, in the text of a service.
+    Check(CheckOrder<'a>),
+    /// Turn an author's text into a service text. `-` as `out` is standard output.
     Compose {
         author: &'a str,
         out: &'a str,
     },
-    /// Make an author's text of a service text. `-` as `out` is standard output.
+    /// Turn a service text into an author's text. `-` as `out` is standard output.
     Decompose {
         service: &'a str,
         out: &'a str,
@@ -301,33 +356,35 @@ pub enum Order<'a> {
     Explain {
         reason: &'a str,
     },
-    /// Say which program this is.
+    /// Print the version, the kit and the logic.
     Version,
 }
 
-/// Why words are refused.
+/// Why a command line is refused.
 #[derive(Drop)]
 pub enum WordsFault {
     /// 1. `clap` refuses them, or they ask for help.
     Refused(clap::Error),
-    /// 2. A page isn't `MPP` or `MPP/SSSS`, or can't be shown.
+    /// 2. A page is not `MPP` or `MPP/SSSS`, or cannot be shown.
     Page,
     /// 3. More than one input is standard input.
     Twice,
-    /// 4. A growth was refused.
+    /// 4. Memory ran out.
     NoMemory,
     /// 5. A moment isn't `MJD/HHMMSS`, `now` or an ISO date and time.
     Time,
     /// 6. Seconds aren't a number from 0.02 to 20000 with at most two decimals.
     Seconds,
-    /// 7. A deadline is given in fields and in seconds.
+    /// 7. A deadline is given both in fields and in seconds.
     Deadlines,
-    /// 8. `certify` is asked for a time within which pages are seen, and for late receivers or to read the cycle twice.
+    /// 8. `certify --within` with `--late` or `--twice`.
     Within,
-    /// 9. `certify` is asked for page numbers, but not for late receivers, or for a time within which pages are seen, or to read the cycle twice.
+    /// 9. `certify --numbers` without `--late`, or with `--within` or `--twice`.
     Numbers,
-    /// 10. The clock in page headers is given as half hours and as a time zone.
+    /// 10. The clock in page headers is given both in half hours and by a time zone.
     Clocks,
-    /// 11. Two arguments of the command do not go together.
+    /// 11. Two arguments of the command cannot be combined.
     Apart(Conflict),
+    /// 12. All pages are asked for in a form of one page.
+    Forms,
 }

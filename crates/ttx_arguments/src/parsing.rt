@@ -72,7 +72,7 @@ fn order_by<'a>(command: CommandName, values: &ArgMatches<'a>) -> Result<Order<'
     }
 }
 
-// The same, but only one input may be standard input, and no two arguments are in conflict.
+// The same. Only one input may be standard input, and no two arguments may be in conflict.
 fn once<'a>(command: CommandName, values: &ArgMatches<'a>) -> Result<Order<'a>, WordsFault>
     ensures { IsOrderOf result (once command (rows_of (found_of values.now))) }
 {
@@ -103,7 +103,7 @@ fn chosen<'a>(matches: &ArgMatches<'a>) -> Result<Order<'a>, WordsFault>
     order_of(name, values)
 }
 
-// Want of memory has its own name.
+// Lack of memory has its own name.
 fn fault(error: clap::Error) -> WordsFault
     ensures { IsFaultOf result error }
 {
@@ -113,7 +113,7 @@ fn fault(error: clap::Error) -> WordsFault
     }
 }
 
-// What `clap` makes of the words.
+// The result of `clap`.
 fn parsed<'a>(
     alloc: Global,
     names: Names<'a>,
@@ -133,7 +133,7 @@ fn parsed<'a>(
     }
 }
 
-// `--version` is an order, and all else that `clap` refuses stays refused.
+// `--version` is an order. Everything else that `clap` refuses stays refused.
 fn settled<'a>(fault: WordsFault) -> Result<Order<'a>, WordsFault>
     ensures { IsSettled fault result }
 {
@@ -146,7 +146,7 @@ fn settled<'a>(fault: WordsFault) -> Result<Order<'a>, WordsFault>
     }
 }
 
-// What words ask for.
+// The order of the words.
 fn asked<'a>(alloc: Global, names: Names<'a>, words: &'a [&'a str]) -> Result<Order<'a>, WordsFault>
     ensures { AnswersBy (ttx_app names.entry) (map (λ w. w.now) words.entry.now) result }
 {

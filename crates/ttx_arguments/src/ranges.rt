@@ -1,4 +1,4 @@
-//! Numbers of options, each inside its range.
+//! Numbers of options, each within its range.
 
 ghost use Rattle.std.specs.Prelude.{◌≡◌, ◌≤◌, ◌≤ℤ◌, ◌*ℤ◌, pos, negsuc};
 
@@ -41,7 +41,7 @@ impl Lines {
     }
 }
 
-/// The repeat count: of so many successive transmissions of a character one at least is received right, 1 to 8.
+/// The repeat count, 1 to 8: of so many successive transmissions of a character at least one is received right.
 #[derive(Clone, Copy)]
 pub struct Repeat {
     times: u8,

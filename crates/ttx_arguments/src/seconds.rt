@@ -40,7 +40,7 @@ fn hundredths(text: &str) -> Option<u64>
     }
 }
 
-// From 0.02 to 20000 seconds the whole fields of so many hundredths.
+// The whole fields in so many hundredths of a second, from 0.02 to 20000 seconds.
 fn whole_fields(hundredths: u64) -> Option<Fields>
     ensures { result ≡ rule.whole_fields hundredths }
 {

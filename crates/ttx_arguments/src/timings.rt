@@ -22,7 +22,7 @@ fn dated<'a>(text: &'a str) -> Option<Start<'a>>
     Some(Start::Utc(moment))
 }
 
-/// When a text says that the first field is sent.
+/// The time of the first field, by the text of `--at`.
 pub(crate) fn start_of<'a>(text: &'a str) -> Option<Start<'a>>
     ensures { option_map start_view result ≡ start_named text.now }
 {
@@ -35,7 +35,7 @@ pub(crate) fn start_of<'a>(text: &'a str) -> Option<Start<'a>>
     Some(Start::Named(text))
 }
 
-// The number below 1,000 that a text is, behind a sign or none.
+// The number below 1,000 that a text is, after an optional sign.
 fn signed_numeral(text: &str) -> Option<i32>
     ensures { result ≡ rule.signed_numeral text.now }
 {
@@ -56,7 +56,7 @@ fn half_hours(number: i32) -> Option<Offset>
     }
 }
 
-// The half hours that `--offset` was given.
+// The half hours given to `--offset`.
 fn given_offset(values: &ArgMatches<'_>) -> Option<Offset>
     ensures { result ≡ half_hours_given (rows_of (found_of values.now)) }
 {
@@ -66,7 +66,7 @@ fn given_offset(values: &ArgMatches<'_>) -> Option<Offset>
     }
 }
 
-/// The clock that `--offset` or `--zone` was given, and that of UTC without both. `None` with both.
+/// The clock of `--offset` or `--zone`, or UTC without either. `None` with both.
 pub(crate) fn clock_of<'a>(values: &ArgMatches<'a>) -> Option<Clock<'a>>
     ensures { option_map clock_view result ≡ clock_at (rows_of (found_of values.now)) }
 {

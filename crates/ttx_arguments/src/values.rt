@@ -5,19 +5,19 @@ ghost use Rattle.clap.specs.Words.{rows_of, found_of};
 ghost use Rattle.ttx_arguments.specs.Arguments.{takes_of};
 ghost use Rattle.ttx_arguments.specs.Numbers.{numeral};
 ghost use Rattle.ttx_arguments.specs.Orders as rule;
-ghost use Rattle.ttx_arguments.specs.Orders.{look_view, kind_named, class_named, form_named, tuning_asked, look_at, sending_at};
+ghost use Rattle.ttx_arguments.specs.Orders.{look_view, kind_named, class_named, form_named, replay_form_named, tuning_asked, look_at, sending_at};
 ghost use Rattle.ttx_arguments.specs.Orders.{IsInside, number_given, number_at, lines_at, repeat_at};
 ghost use Rattle.ttx_arguments.specs.Values.{given_at, text_at, is_set};
 ghost use Rattle.ttx_arguments.specs.declared.arguments.Argument.TheVariants as argument;
 
 use crate::arguments::{Argument, Takes};
-use crate::orders::{Look, ReceiverKind, Sending, Tuning};
+use crate::orders::{Look, ReceiverKind, ReplayForm, Sending, Tuning};
 use crate::ranges::{Fields, Lines, Repeat};
 use clap::ArgMatches;
 use ttx_page::{Class, Selection};
 use ttx_picture::Form;
 
-// The text that an argument was given.
+// The text given to an argument.
 pub(crate) fn given<'a>(values: &ArgMatches<'a>, argument: Argument) -> Option<&'a str>
     ensures { option_map (λ s. s.now) result ≡ given_at argument (rows_of (found_of values.now)) }
 {
@@ -53,7 +53,7 @@ fn inside(takes: Takes, number: u32) -> Option<u32>
     }
 }
 
-// The number that an option was given.
+// The number given to an option.
 pub(crate) fn given_number(values: &ArgMatches<'_>, argument: Argument) -> Option<u32>
     ensures value { result ≡ number_given argument (rows_of (found_of values.now)) }
     ensures range { IfSome result (λ n. IsInside (takes_of argument) n) }
@@ -64,7 +64,7 @@ pub(crate) fn given_number(values: &ArgMatches<'_>, argument: Argument) -> Optio
     }
 }
 
-// The number that an option was given, or its default.
+// The number given to an option, or its default.
 fn number_of(values: &ArgMatches<'_>, argument: Argument, default: u32) -> u32
     requires { IsInside (takes_of argument) default }
     ensures value { result ≡ number_at argument default (rows_of (found_of values.now)) }
@@ -88,7 +88,7 @@ pub(crate) fn lines_of(values: &ArgMatches<'_>) -> Lines
     Lines::new(number_of(values, Argument::Lines, 16) as u8)
 }
 
-// The deadline that `--deadline` was given.
+// The deadline given to `--deadline`.
 pub(crate) fn deadline_of(values: &ArgMatches<'_>) -> Option<Fields>
     ensures { result ≡ number_given argument.Deadline (rows_of (found_of values.now)) }
 {
@@ -98,7 +98,7 @@ pub(crate) fn deadline_of(values: &ArgMatches<'_>) -> Option<Fields>
     }
 }
 
-// The fields that `--every` was given.
+// The fields given to `--every`.
 pub(crate) fn every_of(values: &ArgMatches<'_>) -> Option<Fields>
     ensures { result ≡ number_given argument.Every (rows_of (found_of values.now)) }
 {
@@ -137,12 +137,27 @@ pub(crate) fn form_of(values: &ArgMatches<'_>) -> Form
     let name = text_of(values, Argument::Form);
     if name == "text" {
         Form::Text
+    } else if name == "blocks" {
+        Form::Blocks
     } else if name == "svg" {
         Form::Svg
     } else if name == "html" {
         Form::Html
     } else {
         Form::Ansi
+    }
+}
+
+pub(crate) fn replay_form_of(values: &ArgMatches<'_>) -> ReplayForm
+    ensures { result ≡ replay_form_named (text_at argument.ReplayForm (rows_of (found_of values.now))) }
+{
+    let name = text_of(values, Argument::ReplayForm);
+    if name == "text" {
+        ReplayForm::Text
+    } else if name == "html" {
+        ReplayForm::Html
+    } else {
+        ReplayForm::Words
     }
 }
 
@@ -159,11 +174,12 @@ pub(crate) fn look_of<'a>(values: &ArgMatches<'a>) -> Look<'a>
     Look {
         page: text_of(values, Argument::Page),
         form: form_of(values),
+        given: given(values, Argument::Form).is_some(),
         reveal: is_set(values, Argument::Reveal),
     }
 }
 
-// What `receive` is told of a receiver that is set to this page.
+// The receiver of `receive`, set to this page.
 pub(crate) fn tuning_of(values: &ArgMatches<'_>, selection: Selection) -> Tuning
     ensures { result ≡ tuning_asked selection (rows_of (found_of values.now)) }
 {
@@ -176,7 +192,7 @@ pub(crate) fn tuning_of(values: &ArgMatches<'_>, selection: Selection) -> Tuning
     }
 }
 
-// Which fields `send` is told to send.
+// The fields that `send` has to send.
 pub(crate) fn sending_of(values: &ArgMatches<'_>) -> Sending
     ensures { result ≡ sending_at (rows_of (found_of values.now)) }
 {

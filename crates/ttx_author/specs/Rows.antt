@@ -3,7 +3,7 @@
 --   mode_after              the mode that a code leaves
 --   why_not, code_at        the code of a mark in this mode, or why it has none
 --   codes_of                the codes of marks
---   continued, continued_line       the same behind codes that stand already
+--   continued, continued_line       the same after codes that are there already
 --   filled, line_of         the same filled with spaces; the meaning of a text
 use Rattle.std.specs.Prelude.{ℕ, zero, suc, ◌-◌, Bool, false, not, List, [], ◌∷◌, ◌++◌, Option, Some, None, Result, Ok, Err, if◌then◌else◌}
 use Rattle.std.specs.Prelude.{length, replicate, is_some}
@@ -55,11 +55,11 @@ codes_of option mosaic (suc room) (m ∷ ms) = do
   codes ← codes_of option (mode_after code mosaic) room ms
   Ok (code ∷ codes)
 
--- the same behind codes that stand already
+-- the same after codes that are there already
 abbrev pub continued : ℕ → Bool → ℕ → List ℕ → List Placed → Result (List ℕ) Lack
 continued option mosaic room front marks = codes_of option mosaic room marks >>= (λ codes. Ok (front ++ codes))
 
--- the codes of a line that stand already, and those of marks that follow
+-- the codes of a line that are there already, and those of the marks that follow
 abbrev pub continued_line : ℕ → ℕ → Line → List Placed → Result (List ℕ) Lack
 continued_line width option line marks = continued option line.mosaic (width - array_vec_len line.codes) line.codes.items marks
 

@@ -30,7 +30,7 @@ Shows hold (Sign character) glyph = ShowsCharacter character glyph
 Shows hold (Control code) glyph = hold ≡ false → glyph ≡ Char 0x20
 Shows hold Stray glyph = ⊥
 
--- the mark in a cell; behind the last one stand spaces
+-- the mark in a cell; after the last one come spaces
 abbrev pub mark_at : List ℕ → ℕ → Mark
 mark_at text cell = slice_index_or (map (λ placed. placed.mark) (marks_of text)) cell (Sign 0x20)
 

@@ -172,7 +172,7 @@ fn filled<const N: usize>(codes: &[u8]) -> [u8; N]
     cells
 }
 
-/// The codes of a text in `width` cells, without spaces behind them; or the first mark that has no code.
+/// The codes of a text in `width` cells, without the spaces after them; or the first mark that has no code.
 pub fn codes_of(
     text: &[char],
     option: NationalOption,

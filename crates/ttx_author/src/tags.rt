@@ -57,7 +57,7 @@ fn nth_name<'a>(names: &[&'a str], index: usize) -> &'a str
     names[index]
 }
 
-/// The name at an index: that of a code, 00 to 1F, of a box's end (32) or of its begin (33).
+/// The name at an index: that of a code, 00 to 1F, of the end of a box (32) or of its beginning (33).
 pub(crate) fn name_at(index: usize) -> &'static str
     requires { index < 34 }
     ensures { result.now ≡ slice_index_or rule.names index [] }

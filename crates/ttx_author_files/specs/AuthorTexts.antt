@@ -4,7 +4,7 @@
 --   is_author_text          and its value is 1, in a TOML text
 --   IsTextBy, StandsFor     the service text of a file: composed of an author's text, otherwise the bytes themselves
 --   IsAuthorLines, IsRefusedAuthor    the lines about an author's text that has none
---   ReadsStanding           what is answered for the bytes of a file
+--   ReadsStanding           what is returned for the bytes of a file
 use Rattle.std.specs.Prelude.{◌≡◌, ◌<◌, ◌≤◌, ℕ, ℤ, pos, negsuc, Bool, true, false, ◌&&◌, ◌==◌, List, codes, length, ⊤, Option, Some, None, option_and_then, if◌then◌else◌, Result, Ok, Err, string_bytes}
 use Rattle.std.specs.Str.{bytes_eq, is_utf8}
 use Rattle.toml.specs.Data.{Members, get_member, as_integer}
@@ -14,13 +14,12 @@ use Rattle.toml_parser.specs.Lexical as lexical
 use Rattle.toml_parser.specs.Strings.{Key, key}
 use Rattle.ttx_cycle.specs.Bounded.{most_bytes}
 use Rattle.ttx_files.specs.declared.faults.FilesFault.{FilesFault}
-use Rattle.ttx_files.specs.declared.faults.FilesFault.TheVariants.{Service, Read, TooLong}
+use Rattle.ttx_files.specs.declared.faults.FilesFault.TheVariants.{Read, TooLong}
 use Rattle.ttx_files.specs.declared.faults.FilesFault.TheVariants as files
 use Rattle.ttx_files.specs.declared.faults.TextFile.TheVariants as text
 use Rattle.ttx_desk.specs.Composing.{author_in, Composes}
 use Rattle.ttx_desk.specs.declared.composing.Composed.{Composed}
 use Rattle.ttx_desk.specs.declared.composing.ComposeFault.{ComposeFault}
-use Rattle.ttx_desk.specs.declared.composing.ComposeFault.TheVariants as fault
 use Rattle.ttx_author_files.specs.Composing.{IsRefusal}
 use Rattle.ttx_author_files.specs.declared.author_texts.Standing.{Standing}
 use Rattle.ttx_author_files.specs.declared.author_texts.Standing.TheVariants.{Text, Lines}
@@ -32,7 +31,7 @@ abbrev pub is_author_read : lexical.Read Key → Bool
 is_author_read None = false
 is_author_read (Some read) = is_author_key read.0
 
--- behind white space and comments
+-- after white space and comments
 abbrev pub begins_author : List ℕ → Bool
 begins_author text = is_author_read (key (skip_blank (skip_bom text)))
 
@@ -45,7 +44,7 @@ abbrev pub is_marked : Option Members → Bool
 is_marked None = false
 is_marked (Some table) = is_one (option_and_then as_integer (get_member (codes "author") table))
 
--- the same of a text, which must be UTF-8
+-- the same for a text, which must be UTF-8
 abbrev pub is_author : List ℕ → Bool
 is_author text = begins_author text && is_marked (parse_document text)
 
@@ -73,11 +72,10 @@ abbrev pub IsLinesAbout : List ℕ → List ℕ → ComposeFault → Standing �
 IsLinesAbout name bytes why (Text text) = ⊥
 IsLinesAbout name bytes why (Lines lines) = IsRefusal name bytes why (string_bytes lines)
 
--- what is answered for an author's text
+-- what is returned for an author's text
 abbrev pub ReadsAuthor : List ℕ → List ℕ → Result Standing FilesFault → Type 0
 ReadsAuthor name bytes (Ok (Text text)) = IsTextBy true bytes text.items
 ReadsAuthor name bytes (Ok (Lines lines)) = IsAuthorLines name bytes (string_bytes lines)
-ReadsAuthor name bytes (Err (Service error)) = Composes (author_in bytes) (Err (fault.Service error))
 ReadsAuthor name bytes (Err files.NoMemory) = ⊤
 ReadsAuthor name bytes (Err _) = ⊥
 
@@ -85,7 +83,6 @@ ReadsAuthor name bytes (Err _) = ⊥
 abbrev pub ReadsBytes : List ℕ → List ℕ → Result Standing FilesFault → Type 0
 ReadsBytes name bytes (Ok (Text text)) = IsTextBy (is_author_text bytes) bytes text.items
 ReadsBytes name bytes (Ok (Lines lines)) = IsRefusedAuthor name bytes (string_bytes lines)
-ReadsBytes name bytes (Err (Service error)) = (is_author_text bytes ≡ true) × Composes (author_in bytes) (Err (fault.Service error))
 ReadsBytes name bytes (Err files.NoMemory) = ⊤
 ReadsBytes name bytes (Err _) = ⊥
 

@@ -2,22 +2,24 @@
 --
 --   composed_line           the line that says how many pages there are
 --   IsComposedFile          the service text, and that line
+--   IsServiceLines          the lines about an author's text whose service text is refused: those of `check`
 --   IsRefusal               the lines about an author's text that has no service text
 --   IsRefusedFile           these lines, and no text
 --   IsTold                  the status, the text and the lines
---   IsFaultOf               a refusal of the service text, which has a line of its own
---   IsNotTold               why there are none: the service text is refused, or the author's text is not read
---   TellsText               what is told of the bytes of an author's text
---   ComposesFile            what was written to the text's file and to the output, at each answer
-use Rattle.std.specs.Prelude.{◌≡◌, ◌⊎◌, ℕ, ◌<◌, ◌≤◌, List, [], ◌∷◌, ◌++◌, codes, length, string_bytes, ⊤, Option, Result, Ok, Err}
+--   IsNoMemory, IsNotTold   why there are none: lack of memory, or the author's text is not read
+--   TellsText               what is written for the bytes of an author's text
+--   ComposesFile            what was written to the text's file and to the output, for each answer
+use Rattle.std.specs.Prelude.{◌≡◌, ◌⊎◌, ℕ, ◌<◌, ◌≤◌, List, [], ◌∷◌, ◌++◌, codes, length, string_bytes, ⊤, false, Option, Some, Result, Ok, Err}
 use Rattle.std.specs.Fmt.{decimal}
 use Rattle.std.specs.Io.KnownBytes.{Keeps}
 use Rattle.ttx_cycle.specs.Bounded.{most_bytes}
 use Rattle.ttx_files.specs.Answers.{WritesBoth}
 use Rattle.ttx_files.specs.declared.faults.FilesFault.{FilesFault}
-use Rattle.ttx_files.specs.declared.faults.FilesFault.TheVariants.{Service, Read, TooLong, Write, NoMemory}
+use Rattle.ttx_files.specs.declared.faults.FilesFault.TheVariants.{Read, TooLong, Write, NoMemory}
 use Rattle.ttx_files.specs.declared.faults.TextFile.TheVariants as text
 use Rattle.ttx_files.specs.declared.told.Filed.{Filed}
+use Rattle.toml.specs.Data.{Members}
+use Rattle.ttx_author_files.specs.AuthorReports.{IsReportFor}
 use Rattle.ttx_desk.specs.Composing.{author_in, BeginsWith, Composes, first_comment}
 use Rattle.ttx_desk.specs.MistakeLines.{IsMistakeReport, IsTomlReport}
 use Rattle.ttx_desk.specs.declared.composing.Composed.{Composed}
@@ -38,11 +40,16 @@ pub record IsComposedFile (name bytes text line : List ℕ) : Type 0 where
   pub text_is : text ≡ string_bytes composed.text
   pub line_is : line ≡ composed_line (length composed.service.pages)
 
+abbrev pub IsServiceLines : List ℕ → List ℕ → List ℕ → Type 0
+IsServiceLines name bytes lines =
+    (author : Members) × (code : ℕ) × (author_in bytes ≡ Some author) × IsReportFor false false name bytes author lines code
+
 -- the lines of all mistakes, or about a text that is no TOML, or that would be read as another
 abbrev pub IsRefusal : List ℕ → List ℕ → ComposeFault → List ℕ → Type 0
 IsRefusal name bytes fault.NotToml lines = IsTomlReport name bytes lines
 IsRefusal name bytes (fault.Mistakes found) lines = IsMistakeReport name bytes found.items lines
 IsRefusal name bytes fault.Unsaid lines = lines ≡ unsaid_line name
+IsRefusal name bytes (fault.Service error) lines = IsServiceLines name bytes lines
 IsRefusal name bytes _ lines = ⊥
 
 -- no text, and the lines about what is wrong
@@ -60,21 +67,13 @@ IsToldBy name bytes status text lines =
 abbrev pub IsTold : List ℕ → List ℕ → ℕ → List ℕ → List ℕ → Type 0
 IsTold name bytes status text lines = (length bytes ≤ most_bytes) × IsToldBy name bytes status text lines
 
--- a fault that has a line of its own: the refusal of the service text, or want of memory
-abbrev pub IsFaultOf : ComposeFault → FilesFault → Type 0
-IsFaultOf why (Service error) = why ≡ fault.Service error
-IsFaultOf why NoMemory = ⊤
-IsFaultOf why _ = ⊥
+-- why an author's text that is read has neither text nor lines
+abbrev pub IsNoMemory : FilesFault → Type 0
+IsNoMemory NoMemory = ⊤
+IsNoMemory _ = ⊥
 
--- why an author's text that is read has neither text nor lines: its service text is refused
-abbrev pub IsRefusedText : List ℕ → FilesFault → Type 0
-IsRefusedText bytes (Service error) = Composes (author_in bytes) (Err (fault.Service error))
-IsRefusedText bytes NoMemory = ⊤
-IsRefusedText bytes _ = ⊥
-
--- why nothing is told: the service text is refused, or the author's text is not read
+-- why nothing is written: the author's text is not read
 abbrev pub IsNotTold : List ℕ → FilesFault → Type 0
-IsNotTold bytes (Service error) = Composes (author_in bytes) (Err (fault.Service error))
 IsNotTold bytes (Read which) = which ≡ text.Service
 IsNotTold bytes (TooLong which) = (which ≡ text.Service) × (most_bytes < length bytes)
 IsNotTold bytes NoMemory = ⊤

@@ -5,8 +5,8 @@
 --   IsUnsaidFile            no text, and the line about a service text that no author's text means
 --   IsTold                  the status, the text and the line
 --   IsNotTold               why there are none: the service text is refused, or not read
---   TellsText               what is told of the bytes of a service text
---   DecomposesFile          what was written to the text's file and to the output, at each answer
+--   TellsText               what is written for the bytes of a service text
+--   DecomposesFile          what was written to the text's file and to the output, for each answer
 use Rattle.std.specs.Prelude.{◌≡◌, ◌⊎◌, ℕ, ◌<◌, ◌≤◌, List, [], ◌∷◌, ◌++◌, codes, length, string_bytes, ⊤, Option, Result, Ok, Err}
 use Rattle.std.specs.Fmt.{decimal}
 use Rattle.std.specs.Io.KnownBytes.{Keeps}
@@ -47,13 +47,13 @@ IsToldBy name bytes status text line =
 abbrev pub IsTold : List ℕ → List ℕ → ℕ → List ℕ → List ℕ → Type 0
 IsTold name bytes status text line = (length bytes ≤ most_bytes) × IsToldBy name bytes status text line
 
--- why a text that is read is not told of: it is refused
+-- why nothing is written for a text that is read: it is refused
 abbrev pub IsRefusedText : List ℕ → FilesFault → Type 0
 IsRefusedText bytes (Service error) = Decomposes bytes (Err (fault.Service error))
 IsRefusedText bytes NoMemory = ⊤
 IsRefusedText bytes _ = ⊥
 
--- why nothing is told: the service text is refused, or not read
+-- why nothing is written: the service text is refused, or not read
 abbrev pub IsNotTold : List ℕ → FilesFault → Type 0
 IsNotTold bytes (Service error) = Decomposes bytes (Err (fault.Service error))
 IsNotTold bytes (Read which) = which ≡ text.Service

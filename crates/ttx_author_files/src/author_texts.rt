@@ -8,7 +8,7 @@ ghost use Rattle.toml_parser.specs.Reading.{key_view};
 ghost use Rattle.ttx_cycle.specs.Counters.{inner_of, faults_of};
 ghost use Rattle.ttx_files.specs.Devices.{AtService, input, failed_at, IsFirstFailure, IsOf};
 ghost use Rattle.ttx_author_files.specs.AuthorTexts as rule;
-ghost use Rattle.ttx_author_files.specs.Composing.{IsFaultOf};
+ghost use Rattle.ttx_author_files.specs.Composing.{IsNoMemory};
 
 use crate::composing::refusal;
 use std::alloc::{AllocError, Global};
@@ -123,7 +123,7 @@ fn author_lines(
     fault: &ComposeFault,
 ) -> Result<Standing, FilesFault>
     ensures lines { IfOk result (rule.IsLinesAbout name.now author.now fault.now) }
-    ensures refused { IfErr result (IsFaultOf fault.now) }
+    ensures refused { IfErr result IsNoMemory }
 {
     match refusal(alloc, name, author, fault) {
         Ok(lines) => Ok(Standing::Lines(lines)),
@@ -152,9 +152,8 @@ fn standing_of(alloc: Global, name: &str, bytes: Vec<u8>) -> Result<Standing, Fi
     }
 }
 
-/// Reads a service text or an author's text, of at most 4,194,304 bytes: the service text that it stands for; or, where an author's text
-/// has mistakes, their lines, as `compose` writes them. `name` is the name of the file. Its faults are `Service`, of an author's text alone,
-/// `Read`, `TooLong` and `NoMemory`.
+/// Reads a service text or an author's text, of at most 4,194,304 bytes: the service text that it stands for; or, if an author's text
+/// has mistakes, their lines, as `compose` writes them. `name` is the name of the file. Its faults are `Read`, `TooLong` and `NoMemory`.
 pub fn read_standing<R: Read>(
     alloc: Global,
     name: &str,

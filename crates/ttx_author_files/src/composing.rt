@@ -6,11 +6,13 @@ ghost use Rattle.ttx_files.specs.Answers.{IsUntouched, is_write};
 ghost use Rattle.ttx_files.specs.Devices.{AtService, AtOutput, input, output, failed_at, IsFirstFailure, IsOf};
 ghost use Rattle.ttx_author_files.specs.Composing as rule;
 
+use crate::author_reports::reported_author;
 use std::alloc::{AllocError, Global};
 use std::io::{Read, Write};
 use ttx_cycle::Counted;
 use ttx_desk::{ComposeFault, Composed, compose, mistakes_report, toml_report};
 use ttx_files::{Filed, FilesFault, read_service_text, write_both};
+use ttx_mistakes::Style;
 
 // The line that says how many pages there are.
 fn composed_line(alloc: Global, count: usize) -> Result<String, AllocError>
@@ -19,7 +21,7 @@ fn composed_line(alloc: Global, count: usize) -> Result<String, AllocError>
     format!(in alloc; "composed {count} pages\n")
 }
 
-// The line about an author's text whose service text would be read as another.
+// The line about an author's text whose service text would be read back as another table.
 fn unsaid_line(alloc: Global, name: &str) -> Result<String, AllocError>
     ensures { IfOk result (λ line. string_bytes line ≡ rule.unsaid_line name.now) }
 {
@@ -44,7 +46,7 @@ fn tell_text(alloc: Global, composed: Composed) -> Result<Filed<u8>, FilesFault>
     }
 }
 
-// The lines that memory is there for.
+// The lines, unless memory ran out.
 fn lines_or_memory(lines: Result<String, AllocError>) -> Result<String, FilesFault>
     ensures ok { IfOk result (λ line. lines ≡ Ok line) }
     ensures fault { IfErr result (λ fault. fault ≡ FilesFault.NoMemory) }
@@ -55,7 +57,23 @@ fn lines_or_memory(lines: Result<String, AllocError>) -> Result<String, FilesFau
     }
 }
 
-/// The lines about an author's text that has no service text. The refusal of a service text has a line of its own.
+// The lines about an author's text whose service text is refused: those that `check` writes.
+fn service_lines(alloc: Global, name: &str, author: &[u8]) -> Result<String, AllocError>
+    ensures { IfOk result (λ lines. rule.IsServiceLines name.now author.now (string_bytes lines)) }
+{
+    let style = Style {
+        file: name,
+        long: false,
+        strict: false,
+    };
+    let report = reported_author(alloc, author, style)?;
+    match String::from_utf8(report.text) {
+        Ok(lines) => Ok(lines),
+        Err(_) => Err(AllocError),
+    }
+}
+
+/// The lines about an author's text that has no service text.
 pub(crate) fn refusal(
     alloc: Global,
     name: &str,
@@ -63,7 +81,7 @@ pub(crate) fn refusal(
     fault: &ComposeFault,
 ) -> Result<String, FilesFault>
     ensures lines { IfOk result (λ lines. rule.IsRefusal name.now author.now fault.now (string_bytes lines)) }
-    ensures refused { IfErr result (rule.IsFaultOf fault.now) }
+    ensures refused { IfErr result rule.IsNoMemory }
 {
     match fault {
         ComposeFault::NotToml => lines_or_memory(toml_report(alloc, name, author)),
@@ -71,7 +89,7 @@ pub(crate) fn refusal(
             lines_or_memory(mistakes_report(alloc, name, author, mistakes.as_slice()))
         }
         ComposeFault::Unsaid => lines_or_memory(unsaid_line(alloc, name)),
-        ComposeFault::Service(error) => Err(FilesFault::Service(*error)),
+        ComposeFault::Service(_) => lines_or_memory(service_lines(alloc, name, author)),
         ComposeFault::NoMemory => Err(FilesFault::NoMemory),
     }
 }
@@ -85,7 +103,7 @@ fn tell_lines(
 ) -> Result<Filed<u8>, FilesFault>
     ensures told { IfOk result (λ told. (told.verdict ≡ 1) × (told.file.items ≡ [])
         × rule.IsRefusal name.now author.now fault.now (string_bytes told.line)) }
-    ensures refused { IfErr result (rule.IsFaultOf fault.now) }
+    ensures refused { IfErr result rule.IsNoMemory }
 {
     match refusal(alloc, name, author, fault) {
         Ok(line) => Ok(Filed {
@@ -100,7 +118,7 @@ fn tell_lines(
 // The status, the text and the lines about an author's text.
 fn tell(alloc: Global, name: &str, author: &[u8]) -> Result<Filed<u8>, FilesFault>
     ensures told { IfOk result (λ told. rule.IsToldBy name.now author.now told.verdict told.file.items (string_bytes told.line)) }
-    ensures refused { IfErr result (rule.IsRefusedText author.now) }
+    ensures refused { IfErr result rule.IsNoMemory }
 {
     match compose(alloc, author, name) {
         Ok(composed) => tell_text(alloc, composed),
@@ -129,12 +147,12 @@ fn read_told<R: Read>(
 }
 
 /// Reads an author's text, of at most 4,194,304 bytes, and writes the service text that it means to `file`; then the number of its pages to
-/// `writer`: the status is 0. Where the text has mistakes or is not TOML, `file` gets nothing and `writer` a line for each mistake, with its
+/// `writer`: the status is 0. Where the text has mistakes, is not TOML or is no service, `file` gets nothing and `writer` a line for each mistake, with its
 /// place, and their number: the status is 1. `name` is the name of the author's text, in the lines and in the first comment of the service
 /// text.
 ///
-/// Nothing is written before the service text is read again. At `Write` exactly the first `written` bytes of both went out, the file's
-/// before the line's; at each other fault both writers are as they were. `Service` is the fault of the service text.
+/// Nothing is written before the service text is read again. After `Write` exactly the first `written` bytes of both went out, the file's
+/// before the line's; after any other fault both writers are unchanged.
 pub fn compose_file<R: Read, O: Write, W: Write>(
     alloc: Global,
     name: &str,

@@ -35,7 +35,7 @@ fn tell_text(alloc: Global, decomposed: Decomposed) -> Result<Filed<u8>, FilesFa
     }
 }
 
-// The line about a service text of which no author's text was found that means it.
+// The line about a service text for which no author's text was found.
 fn unsaid_line(alloc: Global, name: &str) -> Result<String, AllocError>
     ensures { IfOk result (λ line. string_bytes line ≡ rule.unsaid_line name.now) }
 {
@@ -95,11 +95,11 @@ fn read_told<R: Read>(
 }
 
 /// Reads the text of a service, of at most 4,194,304 bytes, and writes the author's text of it to `file`; then the number of its pages to
-/// `writer`: the status is 0. Where no author's text means the service text, as one with a key `author`, `file` gets nothing and `writer` a
+/// `writer`: the status is 0. If there is no author's text, for example for a service with a key `author`, `file` gets nothing and `writer` a
 /// line that says so: the status is 1. `name` is the name of the service text, in this line and in the first comment of the author's text.
 ///
-/// Nothing is written before the author's text is read again. At `Write` exactly the first `written` bytes of both went out, the file's
-/// before the line's; at each other fault both writers are as they were.
+/// Nothing is written before the author's text is read again. After `Write` exactly the first `written` bytes of both went out, the file's
+/// before the line's; after any other fault both writers are unchanged.
 pub fn decompose_file<R: Read, O: Write, W: Write>(
     alloc: Global,
     name: &str,

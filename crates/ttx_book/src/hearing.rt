@@ -1,4 +1,4 @@
-//! What a receiver shows of each page of a cycle.
+//! The pages of a cycle, as a receiver shows them.
 
 ghost use Rattle.std.specs.Prelude.{◌≡◌, IfOk, filter_map, length};
 ghost use Rattle.ttx_book.specs.Hearing.{hears, page_memory, leaf_id};

@@ -10,7 +10,8 @@ use Rattle.ttx_newsroom.specs.TextNewsrooms.{Reading, IsNew}
 use Rattle.ttx_newsroom.specs.declared.text_newsroom.TextNewsroom.{TextNewsroom}
 use Rattle.ttx_press.specs.declared.house.House.{House}
 use Rattle.ttx_press.specs.Openings.{IsOpening}
-use Rattle.ttx_broadcast.specs.Broadcasts.{text_gives, MayEnd, ended, Outs, Wish, airtime_in, line_in, Sends, Begun, Broadcasts}
+use Rattle.ttx_press.specs.Presses.{text_gives}
+use Rattle.ttx_broadcast.specs.Broadcasts.{MayEnd, ended, Outs, Wish, airtime_in, line_in, Sends, Begun, Broadcasts}
 use Rattle.ttx_broadcast.specs.declared.faults.BroadcastFault.{BroadcastFault}
 use Rattle.ttx_broadcast.specs.declared.faults.BroadcastFault.TheVariants.{Unread, Refused, NoMemory, Write}
 

@@ -1,25 +1,23 @@
 -- A service on the air from its text (profile).
 --
---   prints, text_gives      what a house prints of a text; what a newsroom over a text answers
 --   fault_of, MayEnd, ended         faults
 --   ReadsFirst, Opens       the first text; its house and its edition
 --   Outs, outs_of           the log and the packets
 --   Wish                    what is asked for, what the clock shows, how it is named, and how many fields are sent
 --   airtime_in, line_in     the airing that is asked for; the first line of the log
 --   IsSent, Sends           the log has the settings, and the airing follows
---   Begun, IsOnAir          the first text, its opening, and the newsroom behind it; and what is sent
+--   Begun, IsOnAir          the first text, its opening, and its newsroom; and what is sent
 --   Broadcasts              what `broadcast` does: it airs, or nothing is sent, and why
 use Rattle.std.specs.declared.alloc.Global.{Global}
 use Rattle.std.specs.Prelude.{◌≡◌, ℕ, List, string_bytes, Option, Result, Ok, Err, Vec, ⊤}
 use Rattle.ttx_cycle.specs.Counters.{inner_of}
 use Rattle.ttx_send.specs.Airing.{Times}
-use Rattle.ttx_playout.specs.Schedules.{Edition}
 use Rattle.ttx_air.specs.declared.faults.AirFault.{AirFault}
 use Rattle.ttx_air.specs.declared.faults.AirFault.TheVariants as air
 use Rattle.ttx_air.specs.declared.log.Outputs.{Outputs}
-use Rattle.ttx_air.specs.Newsrooms.{Candidate, News, candidate_of}
+use Rattle.ttx_air.specs.Newsrooms.{Candidate, candidate_of}
 use Rattle.ttx_air.specs.Airings.{Written, written_of, Logs, scene, Airtime, Airs}
-use Rattle.ttx_newsroom.specs.TextNewsrooms.{Reading, Made, Looks, IsNew}
+use Rattle.ttx_newsroom.specs.TextNewsrooms.{Reading, IsNew}
 use Rattle.ttx_newsroom.specs.declared.text_newsroom.TextNewsroom.{TextNewsroom}
 use Rattle.ttx_press.specs.declared.demand.Demand.{Demand}
 use Rattle.ttx_press.specs.declared.house.House.{House}
@@ -28,18 +26,12 @@ use Rattle.ttx_newsroom.specs.declared.press.PressFault.{PressFault}
 use Rattle.ttx_newsroom.specs.declared.press.PressFault.TheVariants as press
 use Rattle.ttx_press.specs.declared.opening.Opening.{Opening}
 use Rattle.ttx_press.specs.Openings.{IsOpening, IsNoOpening}
-use Rattle.ttx_press.specs.Presses.{Prints}
+use Rattle.ttx_press.specs.Presses.{text_gives}
 use Rattle.ttx_broadcast.specs.Settings.{settings_line}
 use Rattle.ttx_broadcast.specs.declared.faults.BroadcastFault.{BroadcastFault}
 use Rattle.ttx_broadcast.specs.declared.faults.BroadcastFault.TheVariants.{Unread, Refused, NoMemory, Write}
 use Rattle.ttx_broadcast.specs.declared.request.ClockName.{ClockName}
 use Rattle.ttx_broadcast.specs.declared.request.Request.{Request}
-
-abbrev pub prints : House → Edition → List ℕ → Made → House → Type 0
-prints old on_air text made new = (new ≡ old) × Prints old text made
-
-abbrev pub text_gives : {S : Type 0} → (S → Reading → S → Type 0) → TextNewsroom S House → Edition → ℕ → News → TextNewsroom S House → Type 0
-text_gives reads old on_air field news new = Looks reads prints on_air field old new news
 
 abbrev pub fault_of : PressFault → BroadcastFault
 fault_of (press.Refused words) = Refused words
@@ -105,7 +97,7 @@ Sends reads wish house first old new before after (Err (Write fault)) = IsSent r
 Sends reads wish house first old new before after (Err NoMemory) = after.packets ≡ before.packets
 Sends reads wish house first old new before after (Err _) = ⊥
 
--- the first text, its opening, and the newsroom behind it
+-- the first text, its opening, and its newsroom
 pub record Begun {S : Type 0} (reads : S → Reading → S → Type 0) (wish : Wish) (source : S) : Type 0 where
   pub text : List ℕ
   pub next : S

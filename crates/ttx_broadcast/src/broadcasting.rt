@@ -95,6 +95,8 @@ fn sent<C: Clock, S: TextSource, L: Write, W: Write>(
 /// The first text is read and planned, and the time within which viewers have to see a page is shared between its deadline and its gap. The log
 /// begins with what was asked for. Then follows the airing, whose newsroom looks at the source again, at most once a second: a new text takes
 /// over if it serves the receivers, with the same deadline and the same gap. If the first text is refused, nothing is written.
+///
+/// Of what is sent for late receivers `ttx_press::laws::airings_are_whole` says that they show old pages or new ones, and no mixture.
 pub fn broadcast<C: Clock, S: TextSource + Drop, L: Write, W: Write>(
     alloc: Global,
     request: &Request<'_, C>,
@@ -107,6 +109,6 @@ pub fn broadcast<C: Clock, S: TextSource + Drop, L: Write, W: Write>(
     let mut source = source;
     let text = first_text(alloc, &mut source)?;
     let opening = first_opened(alloc, request.demand, &text)?;
-    let mut newsroom = TextNewsroom::new(source, opening.house, &text);
+    let mut newsroom = TextNewsroom::new(source, opening.house, text);
     sent(alloc, request, opening, &mut newsroom, outputs)
 }

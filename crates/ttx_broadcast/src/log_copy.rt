@@ -14,7 +14,7 @@ pub(crate) fn note<L: Write>(log: &mut Counted<L>, line: &[u8])
     if let Err(_) = write_bytes(log, line) {}
 }
 
-/// A log in a file, and a copy of it. What the file takes, the copy gets, too, as long as its writes do not fail.
+/// A log in a file, and a copy of it. The copy gets what the file takes, as long as its own writes do not fail.
 #[derive(Drop)]
 pub struct LogCopy<A, B> {
     file: A,

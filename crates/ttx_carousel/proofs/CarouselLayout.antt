@@ -16,15 +16,7 @@ use Rattle.ttx_carousel.specs.Layout.{has_stays, once, place_of, standing_of, st
 use Rattle.ttx_carousel.specs.Orders.{AreBelow}
 use Rattle.ttx_carousel.specs.declared.layout.Standing.{Standing}
 use Rattle.ttx_carousel.specs.declared.layout.Standing.TheVariants.{Rounds, Once}
-use Rattle.ttx_carousel.proofs.StaysOfNumbers.{get_there, page_there}
-
-pub any_of_map : {A B : Type 0} (f : A → B) (p : B → Bool) (xs : List A) → list_any (λ x. p (f x)) xs ≡ list_any p (map f xs)
-any_of_map f p [] = refl
-any_of_map f p (x ∷ xs) = ap (λ b. p (f x) || b) (any_of_map f p xs)
-
-pub value_there : (values : List PageValue) (i : ℕ) (value : PageValue) → i < length values → value ≡ get_or values i value →
-    slice_get (map page_of values) i ≡ Some (page_of value)
-value_there values i value lt is = slice_get-map page_of values i ∙ ap (option_map page_of) (get_there values i value value lt is)
+use Rattle.ttx_carousel.proofs.StaysOfNumbers.{page_there}
 
 pub listed_there : {A : Type 0} (xs : List A) (i : ℕ) → i < length xs → (x : A) × (slice_get xs i ≡ Some x)
 listed_there [] i lt = absurd (omega (arith, lt))

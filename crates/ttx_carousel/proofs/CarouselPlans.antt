@@ -1,7 +1,7 @@
 -- Plans of carousels: what becomes of each number of laps, and of all.
 use Rattle.std.proofs.Common.{◌≡◌, ◌≢◌, ◌⊎◌, ℕ, zero, suc, ◌+◌, ◌*◌, ◌<◌, ◌≤◌, Bool, true, false, cond, eqb, List, [], ◌∷◌, ◌++◌, length, map, get_or}
 use Rattle.std.proofs.Common.{Option, Some, None, Result, Ok, Err, refl, sym, ap, ◌∙◌, subst, arith, inl, inr}
-use Rattle.std.specs.Prelude.{slice_get, sum_by, Vec}
+use Rattle.std.specs.Prelude.{slice_get, sum_by, Vec, IfOk}
 use Rattle.std.specs.declared.alloc.Global.{Global}
 use Rattle.std.proofs.lemmas.Bool.{cases_eq}
 use Rattle.std.proofs.lemmas.List.{length-append, length-map}
@@ -59,7 +59,7 @@ packets_enough (block ∷ sent) =
 long_bound : (lines : ℕ) (sent : List Block) → 65536 < length sent → 65536 < length_bound lines sent
 long_bound lines sent lt = let enough = packets_enough sent in omega (arith, enough, lt)
 
-length_standings : (service : ServiceFields) (stays : List PromiseFields) (places : List ℕ) (n : ℕ) → n ≤ length service.pages →
+pub length_standings : (service : ServiceFields) (stays : List PromiseFields) (places : List ℕ) (n : ℕ) → n ≤ length service.pages →
     length (standings_to service stays places n) ≡ n
 length_standings service stays places zero le = refl
 length_standings service stays places (suc n) le =
@@ -99,7 +99,13 @@ module _ (stays : List PromiseFields) (service : ServiceFields) (carousel : Caro
     places = is.places;
     spread = is.spread;
     carries = subst (λ o. CarriesInOrder o r.late r.class service (slots_of cycle)) (e ∙ order_is) h;
+    apart = is.apart laps;
   }
+
+  pub laid_out_if_ok : {E : Type 0} (items : List ℕ) → items ≡ order carousel.standings.items carousel.turns laps →
+      (result : Result (Option Cycle) E) → IfOk result (IsLaidOut r service items) → IfOk result (IsCarouselOrNone r stays service laps)
+  laid_out_if_ok items e (Ok cycle) h = laid_out items e cycle h
+  laid_out_if_ok items e (Err why) h = tt
 
   pub too_many : 65536 < length (order carousel.standings.items carousel.turns laps) → IsTooLongCarousel r stays service laps
   too_many lt =

@@ -2,3 +2,4 @@ mod JudgedWaits
 mod StaysOfNumbers
 mod CarouselLayout
 mod CarouselPlans
+mod CarouselRounds

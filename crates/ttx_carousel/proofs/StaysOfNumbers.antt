@@ -7,6 +7,7 @@ use Rattle.std.proofs.lemmas.Bool.{cases_eq, cases_Bool, cond-true, cond-false}
 use Rattle.std.proofs.lemmas.List.{length-map}
 use Rattle.std.proofs.lemmas.Option.{slice_get-map, slice_get-get_or, slice_get_within}
 use Rattle.ttx_header.specs.Ids.{Id}
+use Rattle.ttx_numbers.proofs.NumberedPages.{value_there}
 use Rattle.ttx_page.specs.Pages.{Page}
 use Rattle.ttx_page.specs.Streams.{repeated}
 use Rattle.ttx_page.specs.Views.{page_of}
@@ -21,17 +22,12 @@ use Rattle.ttx_carousel.specs.Carousels.{IsStayKeptFor, AreStaysKept}
 use Rattle.ttx_carousel.specs.Judging.{IsShort, is_same_number, told_with, IsTold, AreShortTo, AreShort}
 use Rattle.ttx_carousel.specs.declared.faults.ShortStay.{ShortStay}
 
-pub get_there : {A : Type 0} (xs : List A) (i : ℕ) (x d : A) → i < length xs → x ≡ get_or xs i d → slice_get xs i ≡ Some x
-get_there [] i x d lt e = absurd (omega arith)
-get_there (y ∷ xs) zero x d lt e = ap Some (sym e)
-get_there (y ∷ xs) (suc i) x d lt e = get_there xs i x d (omega arith) e
-
 -- the page at an index, as a function shows it
 pub page_there : (values : List PageValue) (pages : List Authored) (i : ℕ) (value : PageValue) → i < length values →
     value ≡ get_or values i value → map page_of values ≡ map (λ (p : Authored). p.page) pages →
     slice_get (map (λ (p : Authored). p.page) pages) i ≡ Some (page_of value)
 page_there values pages i value lt is same =
-    ap (λ xs. slice_get xs i) (sym same) ∙ slice_get-map page_of values i ∙ ap (option_map page_of) (get_there values i value value lt is)
+    ap (λ xs. slice_get xs i) (sym same) ∙ value_there values i value lt is
 
 pub is_short : (cycle : List (List ℕ)) (service : ServiceFields) (stay : PromiseFields) (short : ShortStay) (p : Page) (number : Id)
     (slots lines : ℕ) → slice_get (pages_of service) stay.page ≡ Some p → number ≡ p.id →

@@ -39,11 +39,11 @@ pub record IsShort (cycle : List (List ℕ)) (service : ServiceFields) (stay : P
 abbrev pub is_same_number : ShortStay → ShortStay → Bool
 is_same_number one other = (one.number.mag == other.number.mag) && (one.number.page == other.number.page)
 
--- one more number, unless it is told
+-- one more number, unless it is reported already
 abbrev pub told_with : List ShortStay → ShortStay → List ShortStay
 told_with told short = if list_any (is_same_number short) told then told else told ++ short ∷ []
 
--- a promise is kept, or its number is told
+-- a promise is kept, or its number is reported
 abbrev pub IsTold : List (List ℕ) → ServiceFields → Option PromiseFields → List ShortStay → List ShortStay → Type 0
 IsTold cycle service None before told = told ≡ before
 IsTold cycle service (Some stay) before told =

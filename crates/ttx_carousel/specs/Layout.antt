@@ -3,9 +3,8 @@
 -- with stays is sent once in the cycle, in the order of subcodes, at the place of the first listed page of its number in the first lap of a
 -- turn.
 --
---   share_number            two pages have one page number
 --   is_stay_of, has_stays   a stay is of the number of a page; some stay is
---   siblings, rank, first_of        how many pages have the number of a page, how many of these have a smaller subcode, the first of them
+--   rank, first_of          how many pages of the number of a page have a smaller subcode; the first of them
 --   greater                 the greater of two numbers
 --   turns_of, turns_among, turns    the turns that a number with stays needs, and the most of them
 --   place_of                the place at an index, 0 if the list is shorter
@@ -14,19 +13,17 @@
 --   standing_of, standings  where a page stands; where each page stands
 --   stands, in_round        a page is sent in a round; the pages of a round, by their indexes
 --   order_to, order         those of the first rounds; those of a cycle
---   order_of                the same of a service
+--   order_of                the same for a service
 --   has_others              some page is of no number with stays
 use Rattle.std.specs.Prelude.{ℕ, zero, suc, ◌+◌, ◌*◌, ◌/◌, ◌%◌, Bool, false, not, ◌&&◌, ◌==◌, nat_lt, if◌then◌else◌, List, [], ◌∷◌, ◌++◌, length}
 use Rattle.std.specs.Prelude.{slice_get, slice_index_or, Option, Some, None}
 use Rattle.std.specs.List.{count_by, list_any, position_or_len}
+use Rattle.ttx_numbers.specs.Numbers.{share_number, siblings}
 use Rattle.ttx_page.specs.Pages.{Page}
 use Rattle.ttx_source.specs.Promises.{PromiseFields}
 use Rattle.ttx_source.specs.Services.{Authored, ServiceFields, pages_of}
 use Rattle.ttx_carousel.specs.declared.layout.Standing.{Standing}
 use Rattle.ttx_carousel.specs.declared.layout.Standing.TheVariants.{Rounds, Once}
-
-abbrev pub share_number : Page → Page → Bool
-share_number p q = (p.id.mag == q.id.mag) && (p.id.page == q.id.page)
 
 abbrev pub shares_with : Page → Option Page → Bool
 shares_with p None = false
@@ -37,9 +34,6 @@ is_stay_of pages p stay = shares_with p (slice_get pages stay.page)
 
 abbrev pub has_stays : List Page → List PromiseFields → Page → Bool
 has_stays pages stays p = list_any (is_stay_of pages p) stays
-
-abbrev pub siblings : List Page → Page → ℕ
-siblings pages p = count_by (share_number p) pages
 
 abbrev pub has_smaller_subcode : Page → Page → Bool
 has_smaller_subcode p q = share_number p q && nat_lt q.id.sub p.id.sub

@@ -1,4 +1,4 @@
--- What is known of each answer of a plan with stays.
+-- What is known of each result of planning with stays.
 --
 --   IsCarousel, IsTooLongCarousel   a cycle with so many laps a turn; so many laps with which it might be too long, or would send no page
 --   IsCarouselOrNone, IsLaidOut, IsCarouselOf       the same as answers; where the pages of a service stand
@@ -6,7 +6,7 @@
 --   most_laps               more laps are not tried: they change nothing where all pages belong to numbers with stays, and no cycle has more
 --   IsAttempt               what is known of one number of laps
 --   FallShortBelow          with each smaller number of laps some number stays too short
---   IsTried, IsLast, IsEnded        what is known of the last number of laps; the answer where the laps do not go on
+--   IsTried, IsLast, IsEnded        what is known of the last number of laps; the result once no further laps are tried
 --   IsStayingCycle, IsShortPlan     the cycle with the fewest laps that keeps the stays; the numbers that stay too short with the most laps
 --   IsCarouselPlan, MissesRest      a plan that keeps all; what the cycle with the fewest laps misses
 --   KeepsStays, KeepsOrMisses, AnswersStays         each answer: of the stays alone, with the rest judged, and for the service as it is given and left
@@ -25,6 +25,7 @@ use Rattle.ttx_source.specs.Services.{ServiceFields, pages_of}
 use Rattle.ttx_carousel.specs.Carousels.{AreStaysKept, KeepsAll}
 use Rattle.ttx_carousel.specs.Judging.{AreShort, IsMissed}
 use Rattle.ttx_carousel.specs.Layout.{order_of, has_others, standings as standings_of, turns as turns_of_pages}
+use Rattle.ttx_carousel.specs.Rounds.{AreApart}
 use Rattle.ttx_carousel.specs.declared.faults.Missed.{Missed as MissedRest}
 use Rattle.ttx_carousel.specs.declared.faults.ShortStay.{ShortStay}
 use Rattle.ttx_carousel.specs.declared.faults.StayFault.{StayFault}
@@ -33,11 +34,12 @@ use Rattle.ttx_carousel.specs.declared.carousel.Carousel.{Carousel}
 use Rattle.ttx_carousel.specs.declared.planning.Attempt.TheVariants as attempt
 use Rattle.ttx_carousel.specs.declared.faults.StayFault.TheVariants.{Promise, TooLong, Short, Missed, NoMemory}
 
--- the pages in the order of a carousel, each page at its spread place
+-- the pages in the order of a carousel, each page at its spread place, and those of one number apart
 pub record IsCarousel (r : Receivers) (stays : List PromiseFields) (service : ServiceFields) (laps : ℕ) (slots : List (List ℕ)) : Type 0 where
   pub places : List ℕ
   pub spread : IsSpread r.class service.pages places
   pub carries : CarriesInOrder (order_of service stays places laps) r.late r.class service slots
+  pub apart : AreApart stays service places laps
 
 pub record IsTooLongCarousel (r : Receivers) (stays : List PromiseFields) (service : ServiceFields) (laps : ℕ) : Type 0 where
   pub places : List ℕ
@@ -60,6 +62,7 @@ pub record IsCarouselOf (stays : List PromiseFields) (service : ServiceFields) (
   pub spread : IsSpread carousel.receivers.class service.pages places
   pub standings : carousel.standings.items ≡ standings_of service stays places
   pub turns : carousel.turns ≡ turns_of_pages (pages_of service) stays
+  pub apart : (laps : ℕ) → AreApart stays service places laps
 
 pub record AreKeptWith (r : Receivers) (stays : List PromiseFields) (service : ServiceFields) (laps : ℕ) (slots : List (List ℕ)) : Type 0 where
   pub is : IsCarousel r stays service laps slots

@@ -8,9 +8,9 @@ use Rattle.std.specs.Prelude.{ℕ, List, [], ◌∷◌, ◌++◌, codes}
 use Rattle.std.specs.Fmt.{decimal}
 use Rattle.ttx_digits.specs.PageIds.{id_text}
 use Rattle.ttx_header.specs.Ids.{Id}
+use Rattle.ttx_numbers.specs.Numbers.{number_text}
 use Rattle.ttx_promise.specs.PromiseLines.{late_line}
 use Rattle.ttx_promise.specs.Views.{late_view}
-use Rattle.ttx_subpages.specs.NumberReports.{number_text}
 use Rattle.ttx_carousel.specs.declared.faults.Missed.{Missed}
 use Rattle.ttx_carousel.specs.declared.faults.Missed.TheVariants.{Unseen, Late, NeverShown}
 use Rattle.ttx_carousel.specs.declared.faults.ShortStay.{ShortStay}

@@ -1,11 +1,11 @@
-//! Where the pages of a service stand, and for whom.
+//! The places of the pages of a service, and the receivers that they are for.
 
 ghost use Rattle.std.specs.Prelude.{◌≤◌};
 
 use crate::layout::Standing;
 use ttx_plan::Receivers;
 
-/// Where the pages of a service stand, and how many turns a cycle has, for these receivers.
+/// The places of the pages of a service, and how many turns a cycle has, for these receivers.
 #[derive(Drop)]
 pub struct Carousel {
     pub receivers: Receivers,

@@ -3,7 +3,7 @@
 use ttx_header::PageId;
 use ttx_promise::{LatePage, PromiseFault};
 
-/// A number whose pages stay too short.
+/// A number whose pages stay too short a time.
 #[derive(Clone, Copy)]
 pub struct ShortStay {
     /// A page of the number.
@@ -14,7 +14,7 @@ pub struct ShortStay {
     pub promise: u32,
 }
 
-/// What a cycle in which the stays are kept does not keep.
+/// What is missed in a cycle that keeps the stays.
 #[derive(Clone, Copy)]
 pub enum Missed {
     /// No certificate accepts this page.

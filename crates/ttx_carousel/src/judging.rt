@@ -23,7 +23,7 @@ use ttx_source::{Promise, Service};
 use ttx_subpages::least_stay;
 use ttx_witness::{NoMemory, Wait};
 
-// How many slots each page of the number of this page stays; 0 where none is sent.
+// How many slots each page of this page's number stays; 0 if none is sent.
 fn stay_slots(cycle: &Cycle, page: PageId) -> usize
     ensures { IsStayOrNone (repeated (slots_of cycle.now)) (AnySub page.mag page.page) result }
 {
@@ -33,7 +33,7 @@ fn stay_slots(cycle: &Cycle, page: PageId) -> usize
     }
 }
 
-// Whether two are of one number.
+// Whether two pages have one number.
 fn is_same_number(one: &ShortStay, other: &ShortStay) -> bool
     ensures { result ≡ is_same_number one.now other.now }
 {
@@ -64,14 +64,14 @@ fn short_of(cycle: &Cycle, service: &Service, stay: Promise) -> Option<ShortStay
     }
 }
 
-// Whether a number is told.
+// Whether a number is reported already.
 fn is_told(told: &[ShortStay], short: &ShortStay) -> bool
     ensures { result ≡ list_any (is_same_number short.now) told.now }
 {
     told.iter().any(|other| is_same_number(short, other))
 }
 
-// Adds a number, unless it is told.
+// Adds a number, unless it is reported already.
 fn tell(told: &mut Vec<ShortStay>, short: ShortStay) -> Result<(), AllocError>
     ensures { OnOk result (told.new.items ≡ told_with told.old.items short) }
 {

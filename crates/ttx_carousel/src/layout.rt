@@ -9,25 +9,17 @@ ghost use Rattle.ttx_carousel.specs.Layout as rule;
 ghost use Rattle.ttx_carousel.specs.Orders.{AreBelow};
 
 use std::alloc::{AllocError, Global};
+use ttx_numbers::{share_number, siblings};
 use ttx_page::Page;
 use ttx_source::{Promise, Service};
 
 /// Where a page stands.
 #[derive(Clone, Copy)]
 pub enum Standing {
-    /// So often in eight rounds, from its place on.
+    /// It is sent so often in eight rounds, from its place on.
     Rounds { often: u8, place: usize },
-    /// In one round of one turn.
+    /// It is sent in one round of one turn.
     Once { turn: usize, place: usize },
-}
-
-// Whether two pages have one page number.
-fn share_number(one: &Page, two: &Page) -> bool
-    ensures { result ≡ rule.share_number (page_of one.now) (page_of two.now) }
-{
-    let first = one.id();
-    let second = two.id();
-    first.mag() == second.mag() && first.page() == second.page()
 }
 
 // Whether a stay is of the number of a page.
@@ -52,17 +44,6 @@ fn has_stays(pages: &[Page], stays: &[Promise], page: &Page) -> bool
     ensures { result ≡ rule.has_stays (map page_of pages.now) (map promise_view stays.now) (page_of page.now) }
 {
     some_stay(pages, stays, page)
-}
-
-// How many pages have the number of a page.
-fn siblings(pages: &[Page], page: &Page) -> usize
-    ensures value { result ≡ rule.siblings (map page_of pages.now) (page_of page.now) }
-    ensures few { result ≤ length pages.now }
-{
-    pages
-        .iter()
-        .filter(|other| share_number(page, other))
-        .count()
 }
 
 // Whether a page has the number of another, and a smaller subcode.
@@ -256,7 +237,7 @@ fn stands(standing: &Standing, laps: usize, round: usize) -> bool
     }
 }
 
-// Puts a page behind the others, if it is sent.
+// Appends a page, if it is sent.
 fn push_if(order: &mut Vec<usize>, index: usize, sent: bool) -> Result<(), AllocError>
     ensures { OnOk result (order.new.items ≡ order.old.items ++ (if sent then index ∷ [] else [])) }
 {
@@ -266,7 +247,7 @@ fn push_if(order: &mut Vec<usize>, index: usize, sent: bool) -> Result<(), Alloc
     Ok(())
 }
 
-// Puts the pages of a round behind the others.
+// Appends the pages of a round.
 fn push_round(
     order: &mut Vec<usize>,
     standings: &[Standing],

@@ -7,8 +7,8 @@ use crate::faults::{Missed, ShortStay};
 use std::alloc::{AllocError, Global};
 use ttx_digits::push_id;
 use ttx_header::PageId;
+use ttx_numbers::push_number;
 use ttx_promise::late_lines;
-use ttx_subpages::push_number;
 
 // Appends the number.
 #[tactic(auto, unfolding(crate::specs::StayLines::number_words))]

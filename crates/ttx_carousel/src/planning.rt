@@ -17,12 +17,12 @@ use ttx_promise::{Viewers, plan_promises};
 use ttx_source::{Promise, Service};
 use ttx_witness::NoMemory;
 
-// What becomes of a number of laps.
+// The result for a number of laps.
 #[derive(Drop)]
 pub enum Attempt {
-    // Each number stays as promised.
+    // The pages of each number stay as promised.
     Kept { cycle: Cycle },
-    // These do not.
+    // Those of these numbers do not.
     Short { numbers: Vec<ShortStay> },
     // There is no cycle with so many laps.
     TooLong,
@@ -40,7 +40,9 @@ fn carousel_of(
     ensures receivers { IfOk result (λ carousel. carousel.receivers ≡ receivers) }
     ensures is { IfOk result (IsCarouselOf (map promise_view stays.now) service.now) }
 {
-    let turns = turns(service.pages(), stays);
+    ttx_spread::laws::numbers_are_spread();
+    let pages = service.pages();
+    let turns = turns(pages, stays);
     let places = spread_places(service, receivers.class);
     match standings(alloc, service, stays, &places, turns) {
         Ok(standings) => Ok(Carousel {
@@ -118,7 +120,7 @@ fn try_laps(
     }
 }
 
-// The most laps to try: more than one is of no use without pages that come in each lap.
+// The most laps to try: more than one is no use if no page comes in each lap.
 fn most_laps(service: &Service, stays: &[Promise]) -> usize
     ensures value { result ≡ most_laps service.now (map promise_view stays.now) }
     ensures some { 1 ≤ result }
@@ -131,7 +133,7 @@ fn most_laps(service: &Service, stays: &[Promise]) -> usize
     }
 }
 
-// The answer where the laps do not go on, for what became of the last.
+// The result once no further laps are tried, from that for the last ones.
 fn ended(last: Option<Vec<ShortStay>>) -> Result<Cycle, StayFault>
     ensures { IsEnded last result }
 {

@@ -1,7 +1,7 @@
 -- Reading the text of a certificate, line by line, up to its first fault (profile). A line ends in 0A, a word at a space; lines are
 -- counted from 1.
 --
---   lines_in, words_in      the lines of a text, of which the last is what stands after the last 0A; the words of a line
+--   lines_in, words_in      the lines of a text, of which the last is what follows the last 0A; the words of a line
 --   item_in, starts_in_words, entry_in      an item, starts, and the line of an entry
 --   is_in_range, is_in_order                the ranges of an entry, and its place after the one before it
 --   read_entries, line_at, number_line, read_numbers, read_version, read_text       the parts of a text, and the text
@@ -51,7 +51,7 @@ abbrev pub numbers_in : List (List ℕ) → Option (List ℕ)
 numbers_in [] = Some []
 numbers_in (word ∷ words) = before_numbers (number_in_word word) (numbers_in words)
 
--- one number at least
+-- at least one number
 abbrev pub starts_in_words : List (List ℕ) → Option (List ℕ)
 starts_in_words [] = None
 starts_in_words (word ∷ words) = numbers_in (word ∷ words)

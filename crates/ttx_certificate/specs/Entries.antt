@@ -25,7 +25,7 @@ pub record EntryFields : Type 0 where
 abbrev pub entry_at : Id → Item → List ℕ → EntryFields
 entry_at page item starts = record { page = page; item = item; starts = starts }
 
--- lines to a field, how often an item is sent for one right reception, the deadline in fields, entries, the class of receivers
+-- lines of a field, the repeat count, the deadline in fields, entries, the class of receivers
 pub record CertificateFields : Type 0 where
   pub lines : ℕ
   pub repeat : ℕ
@@ -67,7 +67,7 @@ is_page_id id = not (id.page == 0xff) && not (id.sub == 0x3f7f)
 abbrev pub are_slots : List ℕ → Bool
 are_slots numbers = list_all (λ number. nat_lt number 65536) numbers
 
--- one start at least, each below 65,536, rising
+-- at least one start, each below 65,536, rising
 abbrev pub are_starts : List ℕ → Bool
 are_starts starts = not (are_none starts) && are_slots starts && rises starts
 
@@ -100,7 +100,7 @@ pub record IsCertificateFields (w : CertificateFields) : Type 0 where
 abbrev pub same_item : Item → Item → Bool
 same_item a b = item_number a == item_number b
 
--- the starts of the entry for an item of a page; none where there is no such entry
+-- the starts of the entry for an item of a page; none if there is no such entry
 abbrev pub starts_in : List EntryFields → Id → Item → List ℕ
 starts_in [] page item = []
 starts_in (e ∷ es) page item = if same_id e.page page && same_item e.item item then e.starts else starts_in es page item

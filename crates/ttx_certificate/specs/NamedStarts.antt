@@ -13,7 +13,7 @@ use Rattle.ttx_page.specs.declared.class.Class.{Class}
 abbrev pub Rising : List ℕ → Type 0
 Rising starts = (i j : ℕ) → i < j → j < length starts → slice_index_or starts i 0 < slice_index_or starts j 0
 
--- lines to a field, how often an item is sent for one right reception, the deadline in fields, the class of receivers, and the
+-- lines of a field, the repeat count, the deadline in fields, the class of receivers, and the
 -- starts that are named for each item of each page
 pub record Certificate : Type 0 where
   pub lines : ℕ
@@ -34,6 +34,6 @@ pub record IsCertificate (w : Certificate) : Type 0 where
 abbrev pub limit : Certificate → ℕ
 limit w = w.deadline * w.lines
 
--- where the next named start stands after the i-th, in a cycle of n slots: after the last one the first, a period later
+-- the named start after the i-th, in a cycle of n slots: after the last one the first, a period later
 abbrev pub next_start : ℕ → List ℕ → ℕ → ℤ
 next_start n starts i = if nat_lt (i + 1) (length starts) then pos (slice_index_or starts (i + 1) 0) else pos (slice_index_or starts 0 0) +ℤ pos n

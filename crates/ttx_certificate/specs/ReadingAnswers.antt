@@ -1,7 +1,7 @@
--- What the parts of the reader answer, as the definitions see it.
+-- What the parts of the reader return, as the definitions see it.
 --
 --   outcome                 a value, seen by a function, or its fault
---   IsUnlessMemory          a fact, but where an allocation failed
+--   IsUnlessMemory          a fact, unless an allocation failed
 use Rattle.std.specs.Prelude.{◌≡◌, ◌⊎◌, Result, Ok, Err}
 use Rattle.ttx_certificate.specs.declared.certificate_faults.CertFault.{CertFault}
 use Rattle.ttx_certificate.specs.declared.certificate_faults.CertFault.TheVariants.{NoMemory}

@@ -1,4 +1,4 @@
--- Entries as they are written, and what the parts of the reader answer, as the definitions see them.
+-- Entries as they are written, and what the parts of the reader return, as the definitions see them.
 --
 --   written_item, written_of     an item and an entry whose numbers may be out of range
 --   words_after             the words of what is left of a line

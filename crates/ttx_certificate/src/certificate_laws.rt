@@ -12,7 +12,7 @@ pub fn certificates_keep_their_rules()
     ensures { CertificatesKeepTheirRules }
 {}
 
-/// A text that is read is the text that is written of its certificate: each certificate has one text.
+/// A text that is accepted is the text written for its certificate: each certificate has one text.
 pub fn accepted_texts_are_written()
     ensures { AcceptedTextsAreWritten }
 {
@@ -20,7 +20,7 @@ pub fn accepted_texts_are_written()
     read_numbers_are_written();
 }
 
-/// The text that is written of a certificate is read as the certificate.
+/// The text written for a certificate is read back as the certificate.
 pub fn written_texts_are_read()
     ensures { WrittenTextsAreRead }
 {

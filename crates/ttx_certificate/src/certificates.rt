@@ -8,8 +8,8 @@ use crate::entries::{Entry, is_above, place};
 use ttx_header::PageId;
 use ttx_page::{Class, Item};
 
-/// For whom and in what time a cycle is to be received, and the starts that prove it: lines to a field (1 to 32), how often
-/// an item is sent for one right reception (1 to 8), the deadline in fields (1 to 1,000,000), the entries, strictly rising
+/// The receivers and the time for which a cycle is certified, and the starts that prove it: lines of a field (1 to 32), the
+/// repeat count (1 to 8), the deadline in fields (1 to 1,000,000), the entries, strictly rising
 /// by magazine, page number, subcode and item (row 0, rows, links), and the class of receivers.
 #[derive(Drop)]
 pub struct Certificate {
@@ -34,7 +34,7 @@ fn are_numbers(lines: u8, repeat: u8, deadline: u32) -> bool
         && deadline <= 1_000_000
 }
 
-// Whether each entry stands after the one before it.
+// Whether each entry comes after the one before it.
 fn are_in_order(entries: &[Entry]) -> bool
     ensures { result ≡ rises (entry_places (entries_of entries.now)) }
 {
@@ -75,7 +75,7 @@ impl Certificate {
         }
     }
 
-    /// The certificate of these fields. None where one of the type's rules fails.
+    /// The certificate of these fields. `None` if one of the type's rules fails.
     pub fn new(
         lines: u8,
         repeat: u8,
@@ -93,14 +93,14 @@ impl Certificate {
         }
     }
 
-    /// The lines to a field, 1 to 32.
+    /// The lines of a field, 1 to 32.
     pub fn lines(&self) -> u8
         ensures { result ≡ (fields_of self.now).lines }
     {
         self.lines
     }
 
-    /// How often an item is sent for one right reception, 1 to 8.
+    /// The repeat count, 1 to 8: of so many successive transmissions of a character at least one is received right.
     pub fn repeat(&self) -> u8
         ensures { result ≡ (fields_of self.now).repeat }
     {
@@ -128,7 +128,7 @@ impl Certificate {
         self.class
     }
 
-    /// The starts that are named for an item of a page; none where there is no entry for it.
+    /// The starts that are named for an item of a page; none if there is no entry for it.
     pub fn starts(&self, page: PageId, item: Item) -> &[u32]
         ensures { result.now ≡ starts_in (fields_of self.now).entries page item }
     {
@@ -140,8 +140,8 @@ impl Certificate {
         }
     }
 
-    /// The starts that are named for an item of a page, and near which entry those of the next item may stand; `near` is where this
-    /// item's may stand, and wherever that is, the starts are the same.
+    /// The starts that are named for an item of a page, and the place from which to look for those of the next item. `near` is that
+    /// place for this item; it does not change the starts.
     pub fn starts_near(&self, page: PageId, item: Item, near: usize) -> (usize, &[u32])
         ensures { result.1.now ≡ starts_in (fields_of self.now).entries page item }
     {

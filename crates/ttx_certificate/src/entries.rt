@@ -36,7 +36,7 @@ fn is_page_id(page: PageId) -> bool
     ensures value { result ≡ is_page_id page }
     ensures ranges { IsId page }
 {
-    // This call tells the ranges of the id.
+    // This call brings the ranges of the id into the proof.
     let _mag = page.mag();
     page.page() != 0xff && page.sub() != 0x3f7f
 }
@@ -108,12 +108,12 @@ impl Entry {
         }
     }
 
-    /// The entry of these fields. None where one of the type's rules fails.
+    /// The entry of these fields. `None` if one of the type's rules fails.
     pub fn new(page: PageId, item: Item, starts: Vec<u32>) -> Option<Entry>
         ensures some { IsSome result ↔ IsEntry (entry_at page item starts.items) }
         ensures fields { IfSome result (λ e. entry_of e ≡ entry_at page item starts.items) }
     {
-        // This call tells the range of the item.
+        // This call brings the range of the item into the proof.
         let _number = item_number(&item);
         if is_page_id(page) && are_starts(starts.as_slice()) {
             Some(Entry::of(page, item, starts))

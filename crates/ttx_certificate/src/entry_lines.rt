@@ -10,7 +10,7 @@ use crate::written::{Written, WrittenItem};
 use std::alloc::Global;
 use ttx_digits::{id, number};
 
-// The first word, and what stands after the space that ends it.
+// The first word, and what follows the space after it.
 fn next_word(text: &[u8]) -> (&[u8], Option<&[u8]>)
     ensures words { words_in text.now ≡ result.0.now ∷ words_after (option_map (λ t. t.now) result.1) }
     ensures shorter { IfSome result.1 (λ t. length t.now < length text.now) }
@@ -50,7 +50,7 @@ fn item<'a>(rest: Option<&'a [u8]>) -> Option<(WrittenItem, Option<&'a [u8]>)>
     }
 }
 
-// The numbers that the words are. None where one isn't a number.
+// The numbers of the words. `None` if one is not a number.
 fn numbers(alloc: Global, text: &[u8]) -> Result<Option<Vec<u32>>, NoMemory>
     ensures { IfOk result (λ s. option_map (λ v. v.items) s ≡ numbers_in (words_in text.now)) }
 {
@@ -69,7 +69,7 @@ fn numbers(alloc: Global, text: &[u8]) -> Result<Option<Vec<u32>>, NoMemory>
     Ok(Some(numbers))
 }
 
-/// The page, the item and the starts that a line says. None where it has another shape.
+/// The page, the item and the starts of a line. `None` if it has another shape.
 pub(crate) fn shape(alloc: Global, line: &[u8]) -> Result<Option<Written>, NoMemory>
     ensures { IfOk result (λ w. option_map written_of w ≡ entry_in (words_in line.now)) }
 {

@@ -13,7 +13,7 @@ fn line_end(text: &[u8]) -> Option<usize>
     memchr(b'\n', text)
 }
 
-/// The first line, without its 0A, and what follows it. None where no line is ended.
+/// The first line, without its 0A, and what follows it. `None` if no line ends.
 pub(crate) fn cut_line(text: &[u8]) -> Option<(&[u8], &[u8])>
     ensures parts { MatchOption result (lines_in text.now ≡ text.now ∷ []) (λ p. lines_in text.now ≡ p.0.now ∷ lines_in p.1.now) }
     ensures shorter { IfSome result (λ p. length p.1.now < length text.now) }
@@ -31,7 +31,7 @@ fn word_end(text: &[u8]) -> Option<usize>
     text.iter().position(|byte| *byte == b' ')
 }
 
-/// The first word, and what follows the space after it. None where there is no space.
+/// The first word, and what follows the space after it. `None` if there is no space.
 pub(crate) fn cut_word(text: &[u8]) -> Option<(&[u8], &[u8])>
     ensures parts { MatchOption result (words_in text.now ≡ text.now ∷ []) (λ p. words_in text.now ≡ p.0.now ∷ words_in p.1.now) }
     ensures shorter { IfSome result (λ p. length p.1.now < length text.now) }

@@ -22,7 +22,7 @@ use ttx_digits::number;
 use ttx_header::PageId;
 use ttx_page::{Class, Item, RowNumber};
 
-// The id of a page, where its numbers are in their ranges.
+// The id of a page, if its numbers are in their ranges.
 fn page_id(mag: u8, page: u8, sub: u16) -> Option<PageId>
     ensures { result ≡ (if is_id (id_at mag page sub) && is_page_id (id_at mag page sub) then Some (id_at mag page sub) else None) }
 {
@@ -32,7 +32,7 @@ fn page_id(mag: u8, page: u8, sub: u16) -> Option<PageId>
     PageId::new(mag, page, sub)
 }
 
-// The item, where the number of a row is 1 to 24.
+// The item, if the number of a row is 1 to 24.
 fn ranged_item(item: WrittenItem) -> Option<Item>
     ensures { result ≡ (if is_item (written_item item) then Some (written_item item) else None) }
 {
@@ -72,7 +72,7 @@ fn entry(written: Written, number: usize, low: Option<u32>) -> Result<Entry, Cer
     }
 }
 
-// The entry that line `line` says, after the place of the entry before.
+// The entry of line `line`, after the place of the entry before.
 fn entry_in(alloc: Global, text: &[u8], line: usize, low: Option<u32>) -> Result<Entry, CertFault>
     ensures { IsUnlessMemory result (outcome entry_of result ≡ rule.read_entry line low (rule.entry_in (words_in text.now))) }
 {
@@ -148,7 +148,7 @@ fn number_in(text: &[u8], line: usize, key: &[u8], most: u32) -> Result<u32, Cer
     }
 }
 
-// The number that line `line` says, and what follows the line.
+// The number of line `line`, and what follows the line.
 fn number_line<'a>(
     text: &'a [u8],
     line: usize,
@@ -196,7 +196,7 @@ fn clearing(alloc: Global, text: &[u8]) -> Result<Certificate, CertFault>
     numbers(alloc, rest, 3, Class::Clearing)
 }
 
-/// The certificate that a text is. Else its first fault: a line's shape is looked at before the ranges of its numbers, and
+/// The certificate of a text, or its first fault: the shape of a line is checked before the ranges of its numbers, and
 /// these before their order.
 pub fn read_certificate(alloc: Global, bytes: &[u8]) -> Result<Certificate, CertFault>
     ensures { IsUnlessMemory result (outcome fields_of result ≡ rule.read_text bytes.now) }

@@ -91,7 +91,7 @@ fn text_of(alloc: Global, certificate: &Certificate) -> Result<String, AllocErro
     Ok(text)
 }
 
-/// The text of a certificate. Only a refused growth is an error.
+/// The text of a certificate. `Err` only if memory runs out.
 pub fn write_certificate(alloc: Global, certificate: &Certificate) -> Result<Vec<u8>, NoMemory>
     ensures { IfOk result (λ text. text.items ≡ certificate_text (fields_of certificate.now)) }
 {

@@ -1,4 +1,4 @@
--- The text of a verdict and of the first reason of each page (profile), and what is answered for three files.
+-- The text of a verdict and of the first reason of each page (profile), and what is returned for three files.
 --
 --   reason_line, page_line, page_lines      the line of a reason, of a page that has one, and those of all pages
 --   has_reason, reasons_in  whether a page has one; how many have

@@ -33,8 +33,8 @@ IsTrueReason cycle pages p w (LateBlank page item header) = (page ≡ p.id) × L
 abbrev pub HasReason : List (List ℕ) → List Page → Page → Certificate → Type 0
 HasReason cycle pages p w = (reason : Reason) × IsTrueReason cycle pages p w reason
 
--- One for each page, in the order of the list. What is told of a page is its first reason, in the order of numbers, items and slots; and
--- something is told of it exactly if some reason is true of it.
+-- One for each page, in the order of the list. A page is reported with its first reason, in the order of numbers, items and slots; and
+-- it is reported exactly if some reason is true of it.
 pub record AreReasons (cycle : List (List ℕ)) (pages : List Page) (w : Certificate) (told : List PageReason) : Type 0 where
   pub count : length told ≡ length pages
   pub first : (n : ℕ) (p : Page) (t : PageReason) → slice_get pages n ≡ Some p → slice_get told n ≡ Some t → IsFault cycle pages p w t.reason

@@ -1,4 +1,4 @@
--- What is answered and written when a packet file, a service definition and a certificate are certified.
+-- What is returned and written when a packet file, a service definition and a certificate are certified.
 --
 --   IsServiceText, IsCertificateText, IsServiceFault, IsCertificateFault    what the two texts are, and why a text is refused (ttx_files)
 --   IsRefused               why inputs are refused (ttx_files)

@@ -1,4 +1,4 @@
--- What is answered and written when two readings of a packet file are certified, with a service definition and a certificate.
+-- What is returned and written when two readings of a packet file are certified, with a service definition and a certificate.
 --
 --   IsRefusedCycle  why the first faulty one of two packet files is refused
 --   WalkedFiles     the verdict of a walk over two packet files

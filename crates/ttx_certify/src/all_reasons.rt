@@ -16,7 +16,7 @@ pub struct PageReason {
     pub reason: Option<Reason>,
 }
 
-/// The verdict, and what is told of each page of the list.
+/// The verdict, and the first reason of each page of the list, if it has one.
 #[derive(Drop)]
 pub struct AllReasons {
     pub verdict: Verdict,

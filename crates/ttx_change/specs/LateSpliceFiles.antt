@@ -1,13 +1,11 @@
--- What is answered and written when the six files of a splice are judged for receivers that show a page only where it ends.
+-- What is returned and written when the six files of a splice are judged for receivers that show a page only where it ends.
 --
 --   IsLateAnswer            the verdict on a splice, and its line
---   SplicesLate             the verdict on the six files, and its line
---   SplicesLateFiles        what is answered and written for them
+--   SplicesLateFiles        what is returned and written for the six files
 use Rattle.std.specs.Prelude.{◌≡◌, ℕ, List, Option, Result}
-use Rattle.ttx_files.specs.Answers.{WritesAnswer}
 use Rattle.ttx_files.specs.declared.faults.FilesFault.{FilesFault}
 use Rattle.ttx_proof.specs.Splices.{Splice}
-use Rattle.ttx_proof.specs.SplicingFiles.{AreSixWith, IsSixRefused}
+use Rattle.ttx_proof.specs.SplicingFiles.{AnswersSix}
 use Rattle.ttx_change.specs.LateSplices.{IsLateSplice, MeansLate}
 use Rattle.ttx_change.specs.LateSpliceLines.{late_splice_line}
 use Rattle.ttx_change.specs.declared.verdict.LateSplice.{LateSplice}
@@ -17,10 +15,6 @@ pub record IsLateAnswer (c : Splice) (periods : Option ℕ) (verdict : LateSplic
   pub seen : MeansLate c verdict
   pub line_is : line ≡ late_splice_line verdict
 
-abbrev pub SplicesLate : Option (List ℕ) → Option (List ℕ) → Option (List ℕ) → Option (List ℕ) → Option (List ℕ) → Option (List ℕ) →
-    Option ℕ → LateSplice → List ℕ → Type 0
-SplicesLate a b c d e f periods verdict line = AreSixWith a b c d e f (λ s. IsLateAnswer s periods verdict line)
-
 abbrev pub SplicesLateFiles : Option (List ℕ) → Option (List ℕ) → Option (List ℕ) → Option (List ℕ) → Option (List ℕ) → Option (List ℕ) →
     Option ℕ → Option (List ℕ) → Option (List ℕ) → Result LateSplice FilesFault → Type 0
-SplicesLateFiles a b c d e f periods old new result = WritesAnswer (SplicesLate a b c d e f periods) (IsSixRefused a b c d e f) old new result
+SplicesLateFiles a b c d e f periods = AnswersSix (λ s. IsLateAnswer s periods) a b c d e f

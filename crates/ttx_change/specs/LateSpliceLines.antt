@@ -2,7 +2,7 @@
 -- ended by 0A.
 --
 --   late_splice_line        the line
---   IsOpenLine              so it is of each verdict but No
+--   IsOpenLine              so it is of each verdict except a rejection of the splice itself
 use Rattle.std.specs.Prelude.{◌≡◌, ℕ, List, [], ◌∷◌, ◌++◌, codes}
 use Rattle.ttx_certify.specs.VerdictLines.{page_words, slot_words}
 use Rattle.ttx_proof.specs.SpliceLines.{sent_line}

@@ -1,10 +1,10 @@
--- What a verdict on a splice says for receivers that show a page only where it ends (profile).
+-- What a verdict on a splice means for receivers that show a page only where it ends (profile).
 --
 --   IsJudged                the verdict on a splice, after some periods of the old cycle if their number is known
---   IsYes                   it is Yes
+--   IsYes                   it is yes
 --   TellsOpen               what the old cycle leaves open, by the first page in the order of the old list; Yes if nothing
 --   IsLateSplice            the verdict for these receivers, too
---   MeansLate               if it is Yes, the joined stream is seen, and each number that both cycles send whole is seen through the change
+--   MeansLate               if it is yes, the joined stream is seen, and each number that both cycles send whole is seen through the change
 use Rattle.std.specs.Prelude.{ℕ, ◌+◌, length, Option, Some, None}
 use Rattle.ttx_proof.specs.Splices.{Splice, JoinedSeen}
 use Rattle.ttx_proof.specs.LastBlocks.{NoneIsAmid, IsFirstAmid, NoneHasSeam, IsFirstStored}
@@ -37,7 +37,7 @@ TellsOpen c (Stored page slot) = NoneIsAmid c.old c.old_pages × IsFirstStored c
 TellsOpen c (Unfollowed page) = NoneIsAmid c.old c.old_pages × NoneHasSeam c c.old_pages
     × IsFirstUnfollowed c.old c.new c.old_pages (length c.old + length c.new) page
 
--- the splice's own verdict if it is not Yes
+-- the splice's own verdict if it is not yes
 abbrev pub IsLateSplice : Splice → Option ℕ → LateSplice → Type 0
 IsLateSplice c periods (No verdict) = IsJudged c periods verdict × (IsYes verdict → ⊥)
 IsLateSplice c periods verdict = IsJudged c periods sent.Yes × TellsOpen c verdict

@@ -1,4 +1,4 @@
--- What a verdict on a change of the edition on the air says for receivers that show a page late, also those that show it only where it ends
+-- What a verdict on a change of the edition on the air means for receivers that show a page late, also those that show it only where it ends
 -- (profile).
 --
 --   IsLateYes, IsNotOpen    the verdict for receivers that show a page late, and what is left open, are Yes
@@ -35,7 +35,7 @@ IsWhole c Yes = TellsOpen c left.Yes
 IsWhole c (No verdict) = ⊥
 IsWhole c (Open what) = TellsOpen c what × (IsNotOpen what → ⊥)
 
--- the verdict for receivers that show a page late if it is not Yes, and else whether something is left open
+-- the verdict for receivers that show a page late if it is not yes, otherwise whether something is left open
 abbrev pub IsWholeChange : Edition → Edition → ℕ → WholeChange → Type 0
 IsWholeChange old new gap (No verdict) = IsLateChange old new gap verdict × (IsLateYes verdict → ⊥)
 IsWholeChange old new gap verdict = IsLateChange old new gap late.Yes × IsWhole (change old new) verdict

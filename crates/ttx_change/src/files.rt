@@ -4,10 +4,9 @@
 ghost use Rattle.std.specs.Prelude.{◌≡◌, ◌∷◌, [], IfOk, string_bytes};
 ghost use Rattle.ttx_cycle.specs.Counters.{inner_of, faults_of};
 ghost use Rattle.ttx_files.specs.Answers.{IsUntouched, is_write};
-ghost use Rattle.ttx_files.specs.Devices.{AtCycle, AtService, AtCertificate, input, output, failed_at, IsRight, IsFirstFailure};
-ghost use Rattle.ttx_files.specs.Telling.{IsTold};
-ghost use Rattle.ttx_proof.specs.SplicingFiles.{splice_in, IsSixRefused};
-ghost use Rattle.ttx_change.specs.LateSpliceFiles.{IsLateAnswer, SplicesLate, SplicesLateFiles};
+ghost use Rattle.ttx_files.specs.Devices.{AtCycle, AtService, AtCertificate, input, output, failed_at, IsFirstFailure};
+ghost use Rattle.ttx_proof.specs.SplicingFiles.{splice_in};
+ghost use Rattle.ttx_change.specs.LateSpliceFiles.{IsLateAnswer, SplicesLateFiles};
 ghost use Rattle.ttx_change.specs.LateSpliceLines as line_as;
 
 use crate::judging::late_splice;
@@ -16,8 +15,8 @@ use crate::verdict::LateSplice;
 use std::alloc::Global;
 use std::io::{Read, Write};
 use ttx_cycle::Counted;
-use ttx_files::{FilesFault, Told, write_told};
-use ttx_proof::{Six, read_six};
+use ttx_files::{FilesFault, Told};
+use ttx_proof::{Six, SpliceJudge, answer_six};
 use ttx_witness::NoMemory;
 
 fn line_of(alloc: Global, verdict: &LateSplice) -> Result<String, NoMemory>
@@ -26,58 +25,27 @@ fn line_of(alloc: Global, verdict: &LateSplice) -> Result<String, NoMemory>
     late_splice_line(alloc, *verdict)
 }
 
-// The verdict on the inputs, and its line.
-fn tell(alloc: Global, six: &Six, sent: Option<u32>) -> Result<Told<LateSplice>, NoMemory>
-    ensures { IfOk result (λ told. IsLateAnswer (splice_in six.now) sent told.verdict (string_bytes told.line)) }
-{
-    let verdict = late_splice(alloc, six, sent)?;
-    let line = line_of(alloc, &verdict)?;
-    Ok(Told { verdict, line })
+// Judges a splice for receivers that show a page only where it ends, after so many periods of the old cycle, if that is asked.
+#[derive(Drop)]
+struct Late {
+    sent: Option<u32>,
 }
 
-// Reads the six files and judges the splice.
-fn judge_late<A: Read, B: Read, C: Read, D: Read, E: Read, F: Read>(
-    alloc: Global,
-    old: &mut Counted<A>,
-    new: &mut Counted<B>,
-    old_service: &mut Counted<C>,
-    new_service: &mut Counted<D>,
-    old_certificate: &mut Counted<E>,
-    new_certificate: &mut Counted<F>,
-    sent: Option<u32>,
-) -> Result<Told<LateSplice>, FilesFault>
-    ensures bytes { IsTold (SplicesLate (A.remaining (inner_of old.old)) (B.remaining (inner_of new.old)) (C.remaining (inner_of old_service.old)) (D.remaining (inner_of new_service.old)) (E.remaining (inner_of old_certificate.old)) (F.remaining (inner_of new_certificate.old)) sent) (IsSixRefused (A.remaining (inner_of old.old)) (B.remaining (inner_of new.old)) (C.remaining (inner_of old_service.old)) (D.remaining (inner_of new_service.old)) (E.remaining (inner_of old_certificate.old)) (F.remaining (inner_of new_certificate.old))) result }
-    ensures right { IfOk result (λ _. IsRight AtCycle (A.remaining (inner_of old.old)) × IsRight AtCycle (B.remaining (inner_of new.old))
-        × IsRight AtService (C.remaining (inner_of old_service.old)) × IsRight AtService (D.remaining (inner_of new_service.old))
-        × IsRight AtCertificate (E.remaining (inner_of old_certificate.old)) × IsRight AtCertificate (F.remaining (inner_of new_certificate.old))) }
-    ensures faults { IsFirstFailure (input AtCycle (A.remaining (inner_of old.old)) (faults_of old.old) (faults_of old.new)
-        ∷ input AtCycle (B.remaining (inner_of new.old)) (faults_of new.old) (faults_of new.new)
-        ∷ input AtService (C.remaining (inner_of old_service.old)) (faults_of old_service.old) (faults_of old_service.new)
-        ∷ input AtService (D.remaining (inner_of new_service.old)) (faults_of new_service.old) (faults_of new_service.new)
-        ∷ input AtCertificate (E.remaining (inner_of old_certificate.old)) (faults_of old_certificate.old) (faults_of old_certificate.new)
-        ∷ input AtCertificate (F.remaining (inner_of new_certificate.old)) (faults_of new_certificate.old) (faults_of new_certificate.new) ∷ []) (failed_at result) }
-{
-    let six = match read_six(
-        alloc,
-        old,
-        new,
-        old_service,
-        new_service,
-        old_certificate,
-        new_certificate,
-    ) {
-        Ok(six) => six,
-        Err(fault) => return Err(fault),
-    };
-    match tell(alloc, &six, sent) {
-        Ok(told) => Ok(told),
-        Err(_) => Err(FilesFault::NoMemory),
+impl SpliceJudge for Late {
+    type Verdict = LateSplice;
+
+    ghost says = { λ j. λ c. IsLateAnswer c j.sent };
+
+    fn judge(&self, alloc: Global, six: &Six) -> Result<Told<LateSplice>, NoMemory> {
+        let verdict = late_splice(alloc, six, self.sent)?;
+        let line = line_of(alloc, &verdict)?;
+        Ok(Told { verdict, line })
     }
 }
 
 /// Reads two packet files, two service definitions and two certificates, in this order, the old one of each kind first, judges the
-/// splice for receivers that show a page only where it ends, too, and writes the line of the verdict. What Yes says is at `late_splice`.
-/// `sent` is the number of periods for which the old cycle has been on the air, if that is asked.
+/// splice also for receivers that show a page only where it ends, and writes the line of the verdict. `late_splice` says what a yes means.
+/// `sent` is the number of periods for which the old cycle has been on the air, if it counts.
 ///
 /// Nothing is written before everything is judged. After a `Write` fault exactly the first `written` bytes of the line went out; after any
 /// other fault the writer is unchanged.
@@ -104,15 +72,16 @@ pub fn splice_files_late<A: Read, B: Read, C: Read, D: Read, E: Read, F: Read, W
         sent (W.contents (inner_of writer.old)) (W.contents (inner_of writer.new)) result }
     ensures untouched { IsUntouched is_write result writer.old writer.new }
 {
-    let told = judge_late(
+    let judge = Late { sent };
+    answer_six(
         alloc,
+        &judge,
         old,
         new,
         old_service,
         new_service,
         old_certificate,
         new_certificate,
-        sent,
-    );
-    write_told(told, writer)
+        writer,
+    )
 }

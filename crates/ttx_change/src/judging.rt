@@ -16,7 +16,7 @@ use ttx_proof::{
 };
 use ttx_witness::NoMemory;
 
-// What the files say is in its ranges.
+// The values of the files are in their ranges.
 fn has_ranges(six: &Six)
     ensures { IsSplice (splice_in six.now) }
 {
@@ -26,7 +26,7 @@ fn has_ranges(six: &Six)
     let _ = six.services.new.pages();
 }
 
-// The verdict on a splice at whatever time.
+// The verdict on a splice at any time.
 fn at_any_time(verdict: SpliceVerdict) -> SentVerdict
     ensures exact { (c : Splice) → IsSpliceVerdict c verdict → IsJudged c None result }
     ensures means { (c : Splice) → SpliceMeans c verdict → SentMeans c result }
@@ -74,11 +74,11 @@ fn left_open(six: &Six) -> LateSplice
     }
 }
 
-/// The verdict on the splice of six files, after `sent` periods of the old cycle if that is known, and if it is Yes, whether the old cycle
+/// The verdict on the splice of six files, after `sent` periods of the old cycle if that is known, and if it is yes, whether the old cycle
 /// leaves something open: an item of a page that is still to come, a page in which the new cycle would be stored, or one that no other
 /// page number follows.
 ///
-/// If this verdict is Yes, the joined stream is seen, as `splice` says; and for each page number of which both cycles send each page whole
+/// If this verdict is yes, the joined stream is seen, as `splice` says; and for each page number of which both cycles send each page whole
 /// under each of its headers, followed by another page number, a receiver that shows a page only where it ends shows one of the old or of
 /// the new pages of the number, whole, once a block of it that began after tuning has ended, under each reception in which the text of
 /// these pages comes right.

@@ -22,7 +22,7 @@ fn whole_between(current: &Edition, next: &Edition) -> WholeChange
 }
 
 /// The verdict on a change of the edition on the air to a next one, for receivers that show a page late, also those that show it only where
-/// it ends: that of `judge_late`, and if it is Yes, whether the edition on the air leaves something of a page open. With a Yes to each change
+/// it ends: that of `judge_late`, and if it is yes, whether the edition on the air leaves something of a page open. With a yes to each change
 /// the law `schedules_are_whole` says what receivers of a page number show, where each edition sends the pages of the number whole.
 pub fn judge_whole(
     alloc: Global,

@@ -2,7 +2,7 @@
 --
 --   IsCheckFault            what keeps a report from being written
 --   Told                    the report on a text that is not too long
---   Checks                  what was written at each answer
+--   Checks                  what was written for each answer
 use Rattle.std.specs.Prelude.{ℕ, ◌≡◌, ◌<◌, ◌≤◌, List, length, take, ⊤, Option, Result, Ok, Err}
 use Rattle.std.specs.Io.KnownBytes.{Appends, Keeps}
 use Rattle.ttx_cycle.specs.Bounded.{most_bytes}

@@ -26,8 +26,8 @@ pub struct Spot {
     pub detail: String,
 }
 
-// The value at an index.
-fn value_at(values: &[Value], index: usize) -> Option<&Value>
+/// The value at an index.
+pub fn value_at(values: &[Value], index: usize) -> Option<&Value>
     ensures { option_map (λ v. view v.now) result ≡ get_item index (items_view values.now) }
 {
     values.get(index)

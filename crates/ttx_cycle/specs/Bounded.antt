@@ -2,7 +2,7 @@
 --
 --   most_bytes    the most bytes of a text
 --   ReadsText     the answer for the bytes of a text
---   CountsText    a read fault is answered only if one was counted
+--   CountsText    a read fault is returned only if one was counted
 use Rattle.std.specs.Prelude.{◌≡◌, ℕ, ◌<◌, ◌≤◌, List, length, ⊤, Result, Ok, Err, Vec}
 use Rattle.std.specs.declared.alloc.Global.{Global}
 use Rattle.ttx_cycle.specs.Counts.{HasRisen}

@@ -2,7 +2,7 @@
 --
 --   Judged         the answer for a whole file
 --   AnswersNext    the answer when the next slot is asked for
---   CountsRead     a read fault is answered only if one was counted
+--   CountsRead     a read fault is returned only if one was counted
 --   has_slot       whether an answer is a slot
 use Rattle.std.specs.Prelude.{◌≡◌, ℕ, ◌%◌, ◌<◌, ◌≤◌, List, [], length, ⊤, Bool, true, false, Option, IfSome, Result, Ok, Err}
 use Rattle.std.specs.Io.KnownBytes.{Consumes, IsAtEnd}

@@ -1,7 +1,7 @@
 -- Laws of certificates that are found with a deadline that is asked for.
 --
 --   answered                the answer to such a certificate, of which a deadline may be required
---   FoundIsCertified        the certifier says of it what was said when it was found, and it promises the deadline that was asked for
+--   FoundIsCertified        its verdict is the one that it was found with, and it promises the deadline that was asked for
 --   FoundIsRead             its text is read as the certificate
 use Rattle.std.specs.Prelude.{◌≡◌, ℕ, ◌<◌, nat_lt, if◌then◌else◌, List, length, Option, Some, None, Ok}
 use Rattle.ttx_page.specs.Pages.{Page}
@@ -18,7 +18,7 @@ use Rattle.ttx_deadline.specs.declared.requirements.RequiredVerdict.{RequiredVer
 use Rattle.ttx_deadline.specs.declared.requirements.RequiredVerdict.TheVariants as required
 use Rattle.ttx_deadline.specs.declared.requirements.Unmet.TheVariants.{Deadline}
 
--- yes, unless an earlier deadline is required; a no stays
+-- yes, unless an earlier deadline is required; a rejection stays
 abbrev pub answered : ℕ → Verdict → Option ℕ → RequiredVerdict
 answered deadline (certifier.No reason) earlier = required.No reason
 answered deadline certifier.Yes None = required.Yes

@@ -1,8 +1,8 @@
--- What is answered and written where files are certified with a requirement for receivers that show pages late.
+-- What is returned and written when files are certified with a requirement for receivers that show pages late.
 --
 --   IsJudgedLateRequired    the verdict on what was read, with its line
 --   HasLateVerdict          the verdict on three inputs, and its line
---   CertifiesLateRequired   what was written at each answer
+--   CertifiesLateRequired   what was written for each answer
 use Rattle.std.specs.Prelude.{◌≡◌, ℕ, List, length, Option, Result}
 use Rattle.ttx_source.specs.Services.{ServiceFields}
 use Rattle.ttx_certificate.specs.Entries.{CertificateFields}
@@ -22,7 +22,7 @@ pub record IsJudgedLateRequired (slots : List (List ℕ)) (service : ServiceFiel
 abbrev pub HasLateVerdict : List ℕ → List ℕ → List ℕ → ℕ → LateRequiredVerdict → List ℕ → Type 0
 HasLateVerdict a b c fields = IsJudged (λ slots service w. IsJudgedLateRequired slots service w fields) a b c
 
--- Ok: the line of the verdict went out. A write fault: its first `written` bytes. Else nothing, and why the inputs are refused.
+-- Ok: the line of the verdict went out. A write fault: its first `written` bytes. Otherwise nothing, and why the inputs are refused.
 abbrev pub CertifiesLateRequired :
     List ℕ → List ℕ → List ℕ → ℕ → Option (List ℕ) → Option (List ℕ) → Result LateRequiredVerdict FilesFault → Type 0
 CertifiesLateRequired a b c fields = AnswersFiles (λ slots service w. IsJudgedLateRequired slots service w fields) a b c

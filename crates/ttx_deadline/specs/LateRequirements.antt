@@ -1,4 +1,4 @@
--- What a certificate has to promise of a service, also to receivers that show pages late (profile).
+-- What a certificate has to promise for a service, also to receivers that show pages late (profile).
 --
 --   fields_up, late_deadline        slots in whole fields, rounded up; the fields after which such receivers have each page
 --   first_late_unmet        the first requirement that a certificate doesn't meet
@@ -39,7 +39,7 @@ abbrev pub unless_unmet : LateVerdict → Option Unmet → LateRequiredVerdict
 unless_unmet verdict None = Certified verdict
 unless_unmet verdict (Some first) = required.Unmet first
 
--- a no stays; a yes has to meet what is required
+-- a rejection stays; a yes has to meet what is required
 abbrev pub late_required_verdict : ℕ → CertificateFields → ℕ → LateVerdict → LateRequiredVerdict
 late_required_verdict lines w fields (late.Yes gap) = unless_unmet (late.Yes gap) (first_late_unmet lines w gap fields)
 late_required_verdict lines w fields (late.No reason) = Certified (late.No reason)
@@ -56,7 +56,7 @@ pub record IsShownWithin (cycle : List (List ℕ)) (pages : List Page) (p : Page
   pub at_once : Seen cycle pages p (with_deadline w fields)
   pub late : SeenLate cycle pages p (with_deadline w fields) 0
 
--- a yes means that the certificate counts the lines of the service, and that each receiver has each page after so many fields
+-- a yes means that the certificate has the lines of the service, and that each receiver has each page after so many fields
 abbrev pub MeansLateRequired : List (List ℕ) → ServiceFields → CertificateFields → ℕ → LateRequiredVerdict → Type 0
 MeansLateRequired cycle service w fields (Certified (late.Yes gap)) = (w.lines ≡ service.lines)
     × ((n : ℕ) (p : Page) → slice_get (pages_of service) n ≡ Some p → IsShownWithin cycle (pages_of service) p (certificate_at w) fields)

@@ -1,8 +1,8 @@
--- What is answered and written where files are certified with a requirement.
+-- What is returned and written when files are certified with a requirement.
 --
 --   IsJudgedRequired        the verdict on what was read, with its line
 --   HasVerdict              the verdict on three inputs, and its line
---   CertifiesRequired       what was written at each answer
+--   CertifiesRequired       what was written for each answer
 use Rattle.std.specs.Prelude.{◌≡◌, ℕ, List, length, Option, Result}
 use Rattle.ttx_source.specs.Services.{ServiceFields}
 use Rattle.ttx_certificate.specs.Entries.{CertificateFields}
@@ -22,6 +22,6 @@ pub record IsJudgedRequired (slots : List (List ℕ)) (service : ServiceFields) 
 abbrev pub HasVerdict : List ℕ → List ℕ → List ℕ → Option ℕ → RequiredVerdict → List ℕ → Type 0
 HasVerdict a b c required = IsJudged (λ slots service w. IsJudgedRequired slots service w required) a b c
 
--- Ok: the line of the verdict went out. A write fault: its first `written` bytes. Else nothing, and why the inputs are refused.
+-- Ok: the line of the verdict went out. A write fault: its first `written` bytes. Otherwise nothing, and why the inputs are refused.
 abbrev pub CertifiesRequired : List ℕ → List ℕ → List ℕ → Option ℕ → Option (List ℕ) → Option (List ℕ) → Result RequiredVerdict FilesFault → Type 0
 CertifiesRequired a b c required = AnswersFiles (λ slots service w. IsJudgedRequired slots service w required) a b c

@@ -1,9 +1,9 @@
--- What a certificate has to promise of a service (profile).
+-- What a certificate has to promise for a service (profile).
 --
 --   first_unmet, unmet_if   the first requirement that it doesn't meet; where something is required
 --   required_verdict        a verdict with what is required
 --   IsRequiredVerdict       the answer to a cycle, a service, a certificate and what is required
---   IsPromised, MeansRequired       the lines of the service, and a deadline in time; what a Yes means
+--   IsPromised, MeansRequired       the lines of the service, and a deadline in time; what a yes means
 use Rattle.std.specs.Prelude.{◌≡◌, ℕ, ◌≤◌, not, ◌==◌, nat_lt, List, Option, Some, None, if◌then◌else◌, ⊤, slice_get}
 use Rattle.ttx_page.specs.Pages.{Page}
 use Rattle.ttx_source.specs.Services.{ServiceFields, pages_of}
@@ -27,7 +27,7 @@ abbrev pub unmet_if : ℕ → CertificateFields → Option ℕ → Option Unmet
 unmet_if lines w None = None
 unmet_if lines w (Some deadline) = first_unmet lines w deadline
 
--- a No stays; a Yes has to meet what is required
+-- a rejection stays; a yes has to meet what is required
 abbrev pub required_verdict : Verdict → Option Unmet → RequiredVerdict
 required_verdict (certifier.No reason) first = required.No reason
 required_verdict certifier.Yes None = required.Yes
@@ -43,7 +43,7 @@ abbrev pub IsPromised : ℕ → CertificateFields → Option ℕ → Type 0
 IsPromised lines w None = ⊤
 IsPromised lines w (Some deadline) = (w.lines ≡ lines) × (w.deadline ≤ deadline)
 
--- a Yes means that the certificate promises what is required, and that each page is seen
+-- a yes means that the certificate promises what is required, and that each page is seen
 abbrev pub MeansRequired : List (List ℕ) → ServiceFields → CertificateFields → Option ℕ → RequiredVerdict → Type 0
 MeansRequired cycle service w deadline required.Yes = IsPromised service.lines w deadline
     × ((n : ℕ) (p : Page) → slice_get (pages_of service) n ≡ Some p → Seen cycle (pages_of service) p (certificate_at w))

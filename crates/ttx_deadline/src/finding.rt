@@ -27,14 +27,14 @@ pub struct Asked {
     pub deadline: u32,
 }
 
-/// A certificate with the deadline that was asked for, and what the certifier says of it.
+/// A certificate with the deadline that was asked for, and the certifier's verdict on it.
 #[derive(Drop)]
 pub struct FoundWith {
     pub certificate: Certificate,
     pub verdict: Verdict,
 }
 
-/// A certificate that `find_service` has found, with the deadline that is asked for, and the verdict on it, as `find_with` gives it. It is Yes if
+/// A certificate that `find_service` has found, with the deadline that is asked for, and the verdict on it, as `find_with` gives it. It is yes if
 /// the least deadline is at most the one that is asked for. `Err` if memory runs out.
 pub fn with_found(
     alloc: Global,
@@ -60,7 +60,7 @@ pub fn with_found(
     })
 }
 
-/// The certificate that `find_service` finds, with the deadline that is asked for instead of the least, and the verdict on it: Yes exactly
+/// The certificate that `find_service` finds, with the deadline that is asked for instead of the least, and the verdict on it: yes exactly
 /// if the least deadline is at most the one that is asked for, otherwise the first reason why the cycle is not accepted with it. So two
 /// editions can have certificates with one deadline, as `splice` requires. `Err` if memory runs out.
 pub fn find_with(

@@ -51,11 +51,11 @@ impl Judge for LateRequired {
 }
 
 /// Reads a packet file, the text of a service and that of a certificate, in this order, certifies the pages of the service also for
-/// receivers that show pages late, with a deadline of at most `required` fields, and writes the line of the verdict. What it means
-/// `certify_late_required` says.
+/// receivers that show pages late, with a deadline of at most `required` fields, and writes the line of the verdict.
+/// `certify_late_required` says what it means.
 ///
-/// Nothing is written before all is judged. At `Write` exactly the first `written` bytes of the line went out; at each other
-/// fault the writer is as it was, whatever the readers tell.
+/// Nothing is written before all is judged. After `Write` exactly the first `written` bytes of the line went out; after any other
+/// fault the writer is unchanged, whatever the readers return.
 pub fn certify_files_late_required<A: Read, B: Read, C: Read, W: Write>(
     alloc: Global,
     cycle: &mut Counted<A>,

@@ -1,4 +1,4 @@
-//! What a certificate has to promise of a service, also to receivers that show pages late.
+//! What a certificate has to promise for a service, also to receivers that show pages late.
 
 ghost use Rattle.std.specs.Prelude.{◌≡◌, ◌≤◌, IfOk};
 ghost use Rattle.ttx_cycle.specs.Cycles.{slots_of};
@@ -76,9 +76,9 @@ fn shown_verdict(
     }
 }
 
-/// The verdict of `certify_late` on the pages of a service, of whose certificate a deadline of at most `required` fields is required: also
-/// for receivers that show pages late. After a yes the certificate has to count the lines of the service, and its deadline and the gap, in
-/// whole fields, rounded up, are at most as many fields. So after a yes each receiver that is tuned to a page has it after `required` fields
+/// The verdict of `certify_late` on the pages of a service, with a certificate that has to promise a deadline of at most `required` fields, also
+/// for receivers that show pages late. For a yes the certificate must have the lines of the service, and its deadline and the gap, in
+/// whole fields, rounded up, must be at most that many. So after a yes each receiver that is tuned to a page has it after `required` fields
 /// and ever after, whether it shows pages at once or late. `Err` if memory runs out.
 pub fn certify_late_required(
     alloc: Global,

@@ -55,7 +55,7 @@ pub fn first_unmet(service: &Service, certificate: &Certificate, required: u32) 
     None
 }
 
-// The same where something is required.
+// The same if something is required.
 fn unmet_if(service: &Service, certificate: &Certificate, required: Option<u32>) -> Option<Unmet>
     ensures { result ≡ rule.unmet_if service.now.lines (fields_of certificate.now) required }
 {
@@ -77,7 +77,7 @@ fn required_verdict(verdict: Verdict, unmet: Option<Unmet>) -> RequiredVerdict
 }
 
 /// The verdict of `certify` on the pages of a service; if `required` is given, the certificate must also have the lines of the service and
-/// a deadline of at most that many fields. A No is that of `certify`, and comes first. A Yes with `required` means all of this, and that
+/// a deadline of at most that many fields. A rejection by `certify` comes first. A yes with `required` means all of this, and that
 /// each page is seen. `Err` if memory runs out.
 pub fn certify_required(
     alloc: Global,

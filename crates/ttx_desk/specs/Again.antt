@@ -1,4 +1,4 @@
--- A service text that is decomposed, and composed again, says the same service.
+-- A service text that is decomposed and composed again gives the same service.
 use Rattle.std.specs.Prelude.{◌≡◌, ℕ, List, string_bytes, Ok}
 use Rattle.ttx_desk.specs.Composing.{author_in, Composes}
 use Rattle.ttx_desk.specs.Decomposing.{Decomposes}

@@ -2,7 +2,7 @@
 --
 --   author_in               the table of an author's text, if it is TOML
 --   first_comment           the comment that names the source
---   IsComposed, Composes    what is answered for an author's text
+--   IsComposed, Composes    what is returned for an author's text
 use Rattle.std.specs.Prelude.{◌≡◌, ◌<◌, ℕ, List, [], ◌++◌, codes, length, string_bytes, ⊤, Bool, not, ◌&&◌, ◌==◌, nat_le, Option, Some, None, Result, Ok, Err, if◌then◌else◌}
 use Rattle.std.specs.List.{list_all}
 use Rattle.std.specs.Str.{is_utf8}
@@ -31,7 +31,7 @@ IsUnsaid Unsaid = ⊤
 IsUnsaid NoMemory = ⊤
 IsUnsaid fault = ⊥
 
--- a refusal, or want of memory
+-- a refusal, or lack of memory
 abbrev pub IsFaultFor : SourceError → ComposeFault → Type 0
 IsFaultFor error (Service told) = (told ≡ error) × (error ≡ out_of_memory → ⊥)
 IsFaultFor error NoMemory = ⊤

@@ -4,7 +4,7 @@
 --   IsAuthorOf              it means this table
 --   IsAuthorText            it means the table of a service text
 --   IsService               bytes are a service text
---   Decomposes              what is answered for a service text
+--   Decomposes              what is returned for a service text
 use Rattle.std.specs.Prelude.{◌≡◌, ◌⊎◌, ℕ, List, [], string_bytes, ⊤, String, Some, Result, Ok, Err}
 use Rattle.toml.specs.Data.{Members}
 use Rattle.toml.specs.Parse.{parse_document}
@@ -42,8 +42,8 @@ IsAuthorText text bytes = (table : Members) × (author_in bytes ≡ Some table) 
 abbrev pub IsService : List ℕ → Type 0
 IsService bytes = (service : ServiceFields) × (read_bytes bytes ≡ Ok service)
 
--- An author's text means the very table of the service text, which is that of a service. Otherwise the first fault of the service text.
--- `Unsaid` is answered for a service text alone.
+-- The author's text means exactly the table of the service text, which is that of a service. Otherwise the first fault of the service text.
+-- `Unsaid` is returned only for a service text.
 abbrev pub Decomposes : List ℕ → Result Decomposed DecomposeFault → Type 0
 Decomposes bytes (Ok decomposed) = IsAuthorText (string_bytes decomposed.text) bytes × (read_bytes bytes ≡ Ok decomposed.service)
 Decomposes bytes (Err (Service error)) = (error ≡ out_of_memory) ⊎ (read_bytes bytes ≡ Err (fault_of error.fault, error.page))

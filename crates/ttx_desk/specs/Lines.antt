@@ -2,7 +2,7 @@
 --
 --   after_feed, before_feed     what follows the first line feed; what stands before it
 --   rest_after, line            the text after a number of line feeds; a line, without a carriage return at its end
---   is_blank                whether there are spaces alone
+--   is_blank                whether there are only spaces
 use Rattle.std.specs.Prelude.{ℕ, zero, suc, ◌+◌, ◌-◌, ◌==◌, Bool, List, [], Option, Some, None, take, drop, length, slice_index, if◌then◌else◌}
 use Rattle.std.specs.List.{position, list_all}
 

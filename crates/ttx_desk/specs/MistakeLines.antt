@@ -4,7 +4,7 @@
 --   IsMistakeLine, AreMistakeLines    the line of a mistake, and those of a list
 --   count_line              how many there are
 --   IsReport, IsMistakeReport   the lines of mistakes, and their number
---   IsTomlReport            the same of a text that is not TOML
+--   IsTomlReport            the same for a text that is not TOML
 use Rattle.std.specs.Prelude.{◌≡◌, ◌≤◌, ℕ, List, [], ◌∷◌, ◌++◌, codes, length, take, ◌==◌, if◌then◌else◌, Some}
 use Rattle.std.specs.Fmt.{decimal}
 use Rattle.toml.specs.Data.{Members}
@@ -41,7 +41,7 @@ pub record IsReport (file text : List ℕ) (author : Members) (mistakes : List M
   pub each : AreMistakeLines file text author (take 100 mistakes) lines
   pub is : report ≡ lines ++ count_line (length mistakes)
 
--- the same of the text of a file
+-- the same for the text of a file
 abbrev pub IsMistakeReport : List ℕ → List ℕ → List Mistake → List ℕ → Type 0
 IsMistakeReport file text mistakes report = (author : Members) × (author_in text ≡ Some author) × IsReport file text author mistakes report
 

@@ -1,8 +1,8 @@
--- Where a character of a text stands in an author's text: behind the quotation mark that begins the text, escapes and all.
+-- Where a character of a text is in an author's text: after the quotation mark that begins the text, counting escapes.
 --
---   Sign, sign_of           what begins in a text: the bytes that it takes, whether it is a character, whether a line feed
+--   Sign, sign_of           the sign at the beginning of a text: its bytes, whether it is a character, whether a line feed
 --   text_front              the bytes of the quotation marks that begin a text
---   sign_left               the bytes from a character to the end of the file, by its index behind a number of line feeds
+--   sign_left               the bytes from a character to the end of the file, by its index after a number of line feeds
 --   mistake_path            the path of the value that a mistake is in
 --   character_place         the place of a character of a text
 --   place_behind, IsPlace   the place of a mistake
@@ -30,7 +30,7 @@ white_size text = unwrap_or (position (λ c. not (is_white c)) text) (length tex
 abbrev pub escape_size : ℕ → ℕ
 escape_size c = if c == 0x78 then 4 else if c == 0x75 then 6 else if c == 0x55 then 10 else 2
 
--- behind a backslash: white space is not seen (TOML, at the end of a line), anything else is an escape; \n is a line feed
+-- after a backslash: white space is left out (TOML, at the end of a line), anything else is an escape; \n is a line feed
 abbrev pub escaped : List ℕ → Sign
 escaped rest =
     if is_white (slice_index rest 0) then sign (suc (white_size rest)) false false
@@ -46,7 +46,7 @@ sign_of basic text =
     if basic && (slice_index text 0 == 0x5c) then escaped (drop 1 text)
     else sign (utf8_size (slice_index text 0)) true (slice_index text 0 == 0x0a)
 
--- three quotation marks begin a text of several lines, in which a line feed right behind them does not count
+-- three quotation marks begin a text of several lines, in which a line feed right after them does not count
 abbrev pub lines_front : List ℕ → ℕ
 lines_front text = if slice_index text 3 == 0x0a then 4 else if (slice_index text 3 == 0x0d) && (slice_index text 4 == 0x0a) then 5 else 3
 
@@ -98,7 +98,7 @@ part_path (Line number) = codes "/rows/text"
 abbrev pub mistake_path : Mistake → List ℕ
 mistake_path mistake = (if mistake.page == 0 then codes "/info" else codes "/page/" ++ decimal mistake.page) ++ part_path mistake.part
 
--- line 1 of `text` stands behind no line feed
+-- line 1 of `text` comes after no line feed
 abbrev pub feeds_before : Part → ℕ
 feeds_before (Line number) = number - 1
 feeds_before part = 0

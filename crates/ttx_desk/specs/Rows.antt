@@ -26,7 +26,7 @@ abbrev pub characters_of : Option (List ℕ) → List ℕ
 characters_of None = []
 characters_of (Some text) = chars text
 
--- the characters of `text`; none where there is no text
+-- the characters of `text`; none if there is no text
 abbrev pub lines_in : Members → List ℕ
 lines_in rows = characters_of (text_at (codes "text") rows)
 
@@ -55,7 +55,7 @@ put_rows option lines rows [] out = out
 put_rows option lines rows (index ∷ indices) out =
     put_rows option lines rows indices (row_put option index (written_row lines rows index) out)
 
--- a row that stands by its number and in `text`
+-- a row that is given both by its number and in `text`
 abbrev pub is_twice : List ℕ → Members → ℕ → Bool
 is_twice lines rows index = is_some (get_member (row_key index) rows) && not (is_blank (line index lines))
 
@@ -77,7 +77,7 @@ is_white c = (c == 32 || c == 10) || c == 13
 abbrev pub all_white : List ℕ → Bool
 all_white text = list_all is_white text
 
--- there is something behind line 24
+-- there is something after line 24
 abbrev pub is_long : List ℕ → Bool
 is_long lines = not (all_white (rest_after 24 lines))
 

@@ -111,7 +111,7 @@ remedy_words c = if is_unseen c then codes "; control codes are written by names
 abbrev pub missing_words : ℕ → ℕ → List ℕ
 missing_words option c = option_name option ++ codes " has no " ++ sign_text c ++ remedy_words c
 
--- the cell behind codes, from 1; the last one if a mark before it has no code
+-- the cell after these codes, from 1; the last one if a mark before it has no code
 abbrev pub cell_behind : ℕ → Result (List ℕ) Lack → ℕ
 cell_behind width (Ok before) = suc (length before)
 cell_behind width (Err lack) = width
@@ -125,7 +125,7 @@ mode_words cell c mode needs =
     codes "cell " ++ decimal cell ++ codes " stands " ++ mode ++ codes ", where " ++ sign_text c ++ codes " is not shown; a tag such as {" ++ needs
     ++ codes "} is missing before it"
 
--- the name behind a brace, up to the brace that closes it
+-- the name after a brace, up to the brace that closes it
 abbrev pub name_behind : List ℕ → Option (List ℕ)
 name_behind [] = None
 name_behind (brace ∷ rest) = option_map (λ end. take end rest) (position (λ c. c == 0x7d) rest)
@@ -151,7 +151,7 @@ IsMarkWords option width text place Mosaic words =
 IsMarkWords option width text place Tag words = IsBraceWords (name_behind (drop place text)) words
 IsMarkWords option width text place Room words = words ≡ codes "no cell is left; there are " ++ decimal width
 
--- a name that no option has, and those that there are
+-- a name that no option has, and the names of the options
 abbrev pub name_words : List ℕ → List ℕ
 name_words name =
     codes "no national option is called " ++ signs_text name ++ codes "; the names are " ++ name_list option_names

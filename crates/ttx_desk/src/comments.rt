@@ -1,4 +1,4 @@
-//! The comments of an author that stand before a page.
+//! An author's comments before a page.
 
 use std::alloc::{AllocError, Global};
 use std::mem::replace;

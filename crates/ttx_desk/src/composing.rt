@@ -19,7 +19,7 @@ use std::alloc::{AllocError, Global};
 use toml::Table;
 use ttx_source::{Service, SourceError, SourceFault, read_service};
 
-/// A service text, and the service that it says.
+/// A service text, and its service.
 #[derive(Drop)]
 pub struct Composed {
     pub text: String,
@@ -35,13 +35,13 @@ pub enum ComposeFault {
     Mistakes(Vec<Mistake>),
     /// The service text is refused.
     Service(SourceError),
-    /// The text would be read as another than it was written of.
+    /// The text would be read back as another table than it was written from.
     Unsaid,
     /// An allocation failed.
     NoMemory,
 }
 
-/// A table as TOML, which is read as the table again.
+/// A table as TOML text that is read back as the same table.
 pub(crate) fn plain_text(alloc: Global, table: &Table) -> Option<String>
     ensures { IfSome result (λ text. parse_document (string_bytes text) ≡ Some (table_view table.now)) }
 {
@@ -54,7 +54,7 @@ pub(crate) fn plain_text(alloc: Global, table: &Table) -> Option<String>
     }
 }
 
-// Whether a text is read as the table of a plain text. A table that is read is not too deep to be printed.
+// Whether a text is read as the same table as a plain text. A table that was read is not too deep to be printed.
 fn is_read_as(alloc: Global, text: &str, plain: &str) -> Result<bool, AllocError>
     ensures { IfOk result (λ read. IsTrue read → parse_document text.now ≡ parse_document plain.now) }
 {
@@ -116,7 +116,7 @@ fn with_comment(alloc: Global, source: &str, body: &str) -> Result<String, Alloc
     Ok(text)
 }
 
-// A service text of a table that is read as the table: with the author's comments before pages, or without them.
+// A service text that is read back as the table: with the author's comments before pages, or without them.
 fn service_text(
     alloc: Global,
     author: &str,
@@ -162,7 +162,7 @@ fn bare_text(alloc: Global, plain: &str, source: &str) -> Result<String, Compose
     }
 }
 
-// A refusal, or want of memory.
+// A refusal, or lack of memory.
 fn fault_for(error: SourceError) -> ComposeFault
     ensures { rule.IsFaultFor error result }
 {
@@ -183,7 +183,7 @@ fn read_text(alloc: Global, text: &str) -> Result<Service, ComposeFault>
     }
 }
 
-// A text with its service, which says what the author wrote.
+// A text with its service, which has what the author wrote.
 fn read_composed(alloc: Global, author: &Table, text: String) -> Result<Composed, ComposeFault>
     ensures ok { IfOk result (λ composed. (composed.text ≡ text) × (read_bytes (string_bytes text) ≡ Ok composed.service)
         × SaysTexts (table_view author.now) composed.service) }
@@ -223,8 +223,8 @@ fn compose_table(
 }
 
 /// The service text of an author's text, and the service that it says. `source` is the name of the author's text; the first line is a
-/// comment that names it, and the author's comments before pages are kept. All mistakes are answered, if there is one; otherwise the fault
-/// for which the service text is refused. Before it is answered the text is read again.
+/// comment that names it, and the author's comments before pages are kept. All mistakes are returned, if there is one; otherwise the fault
+/// for which the service text is refused. Before it is returned, the text is read again.
 pub fn compose(alloc: Global, author: &[u8], source: &str) -> Result<Composed, ComposeFault>
     ensures answer { rule.Composes (rule.author_in author.now) result }
     ensures comment { IfOk result (λ c. rule.BeginsWith (rule.first_comment source.now) (string_bytes c.text)) }

@@ -53,7 +53,7 @@ fn means(alloc: Global, author: &str, plain: &str) -> Result<bool, AllocError>
     }
 }
 
-// The author's text in which the rest is printed plainly: what has tables of its own inside pages.
+// The author's text of what is printed plainly: everything with further tables inside pages.
 fn bare_text(alloc: Global, author: &Table, source: &str) -> Result<String, AllocError> {
     let Some(body) = plain_text(alloc, author) else {
         return Err(AllocError);
@@ -135,8 +135,8 @@ fn decompose_text(alloc: Global, service: &[u8], source: &str) -> Result<String,
 }
 
 /// The author's text of a service text: characters as they are seen, control codes by names, a national option by its name. Its table means
-/// the very table of the service text, so composed again it gives the same service. `source` is the name of the service text. Before it
-/// is answered the text is read again. Comments are not kept.
+/// exactly the table of the service text, so composed again it gives the same service. `source` is the name of the service text. Before it
+/// is returned, the text is read again. Comments are not kept.
 pub fn decompose_service(
     alloc: Global,
     service: &[u8],

@@ -1,4 +1,4 @@
-//! How deep arrays and tables stand in one another.
+//! How deeply arrays and tables are nested.
 
 ghost use Rattle.std.specs.Prelude.{◌≤◌, IsTrue};
 ghost use Rattle.toml.specs.Data.{depth, items_depth, members_depth};
@@ -6,7 +6,7 @@ ghost use Rattle.toml.specs.View.{items_view, table_view, view};
 
 use toml::{Table, Value};
 
-// Whether arrays and tables in a value stand at most so deep in one another.
+// Whether arrays and tables in a value are nested at most so deeply.
 #[cycle(depth)]
 fn is_value_within(value: &Value, most: usize) -> bool
     ensures { IsTrue result → depth (view value.now) ≤ most }
@@ -30,7 +30,7 @@ fn are_items_within(items: &[Value], most: usize) -> bool
     true
 }
 
-/// Whether arrays and tables in a table stand at most so deep in one another.
+/// Whether arrays and tables in a table are nested at most so deeply.
 #[cycle(depth)]
 pub fn is_within(table: &Table, most: usize) -> bool
     ensures { IsTrue result → members_depth (table_view table.now) ≤ most }

@@ -13,7 +13,7 @@ pub fn texts_are_seen()
     ttx_author::laws::head_is_seen();
 }
 
-/// A service text that is decomposed, and composed again, says the same service.
+/// A service text that is decomposed and composed again gives the same service.
 pub fn composed_again_is_the_same()
     ensures { ComposedAgainIsTheSame }
 {}

@@ -25,3 +25,6 @@ pub use composing::{ComposeFault, Composed, compose};
 pub use decomposing::{DecomposeFault, Decomposed, decompose, decompose_service};
 pub use messages::{mistakes_report, push_mistakes, toml_report};
 pub use mistakes::{Fault, Mistake, Part};
+pub use places::mistake_place;
+pub use services::{Translated, service_of};
+pub use words::push_fault;

@@ -51,14 +51,14 @@ fn without_return(text: &[char]) -> &[char]
     }
 }
 
-/// A line, from 0, without the carriage return and the line feed behind it; empty if the text has fewer lines.
+/// A line, from 0, without the carriage return and the line feed after it; empty if the text has fewer lines.
 pub fn line(text: &[char], number: usize) -> &[char]
     ensures { result.now ≡ rule.line number text.now }
 {
     without_return(before_feed(rest_after(text, number)))
 }
 
-/// Whether there are spaces alone.
+/// Whether there are only spaces.
 pub fn is_blank(text: &[char]) -> bool
     ensures { result ≡ rule.is_blank text.now }
 {

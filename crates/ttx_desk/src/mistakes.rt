@@ -24,7 +24,7 @@ pub enum Fault {
     Name,
     /// A mark has no code.
     Mark { why: Why },
-    /// The row stands in `text` too.
+    /// The row is also in `text`.
     Twice,
     /// `text` has more than 24 lines.
     Lines,

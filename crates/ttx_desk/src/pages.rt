@@ -41,7 +41,7 @@ fn option_of(value: &Value) -> Option<NationalOption>
     }
 }
 
-/// The national option of a page: a number from 0 to 7 or a name, English where it has none.
+/// The national option of a page: a number from 0 to 7 or a name, English if it has none.
 pub fn option_in(page: &Table) -> Option<NationalOption>
     ensures { option_map option_number result ≡ rule.option_in (get_member (codes "option") (table_view page.now)) }
 {

@@ -10,7 +10,7 @@ use std::alloc::{AllocError, Global};
 use ttx_digits::push_decimal;
 use ttx_places::place_of;
 
-/// What a text begins with: the bytes that it takes, whether it stands for a character, and whether for a line feed.
+/// The sign that a text begins with: how many bytes it has, whether it is a character, and whether it is a line feed.
 #[derive(Clone, Copy)]
 pub struct Sign {
     pub size: usize,
@@ -18,7 +18,7 @@ pub struct Sign {
     pub feed: bool,
 }
 
-// The byte at a place; 0 behind the end.
+// The byte at a place; 0 after the end.
 fn byte_at(text: &[u8], place: usize) -> u8
     ensures { result ≡ slice_index text.now place }
 {
@@ -28,7 +28,7 @@ fn byte_at(text: &[u8], place: usize) -> u8
     }
 }
 
-// The text behind so many bytes.
+// The text after so many bytes.
 fn behind(text: &[u8], size: usize) -> &[u8]
     ensures { result.now ≡ drop size text.now }
 {
@@ -45,14 +45,14 @@ fn is_white(byte: u8) -> bool
     byte == b' ' || byte == b'\t' || byte == b'\r' || byte == b'\n'
 }
 
-// Where the white space ends that a text begins with.
+// Where the white space at the beginning of a text ends.
 fn white_end(text: &[u8]) -> Option<usize>
     ensures { result ≡ position (λ c. not (rule.is_white c)) text.now }
 {
     text.iter().position(|byte| !is_white(*byte))
 }
 
-// The size of the white space that a text begins with.
+// The size of the white space at the beginning of a text.
 fn white_size(text: &[u8]) -> usize
     ensures { result ≡ rule.white_size text.now }
 {
@@ -62,7 +62,7 @@ fn white_size(text: &[u8]) -> usize
     }
 }
 
-// The size of an escape, by the byte behind its backslash.
+// The size of an escape, by the byte after its backslash.
 fn escape_size(byte: u8) -> usize
     ensures { result ≡ rule.escape_size byte }
 {
@@ -74,7 +74,7 @@ fn escape_size(byte: u8) -> usize
     }
 }
 
-// The sign that a backslash before this text begins: a line's end that is not seen, or an escape.
+// The sign of a backslash and this text after it: the end of a line that is left out, or an escape.
 fn escaped(rest: &[u8]) -> Sign
     ensures { result ≡ rule.escaped rest.now }
 {
@@ -120,7 +120,7 @@ fn sign_of(text: &[u8], basic: bool) -> Sign
     }
 }
 
-// The size of three quotation marks, with the line feed behind them.
+// The size of three quotation marks, with the line feed after them.
 fn lines_front(text: &[u8]) -> usize
     ensures { result ≡ rule.lines_front text.now }
 {
@@ -143,7 +143,7 @@ fn text_front(text: &[u8]) -> usize
     }
 }
 
-// Whether a sign is a character behind all line feeds that come first.
+// Whether a sign is a character after all line feeds that come first.
 fn is_counted(sign: Sign, feeds: usize) -> bool
     ensures { result ≡ rule.is_counted sign feeds }
 {
@@ -157,7 +157,7 @@ fn is_here(sign: Sign, feeds: usize, index: usize) -> bool
     is_counted(sign, feeds) && index == 0
 }
 
-// The line feeds that are left behind a sign.
+// The line feeds that are left after a sign.
 fn feeds_after(sign: Sign, feeds: usize) -> usize
     ensures { result ≡ rule.feeds_after sign feeds }
 {
@@ -168,7 +168,7 @@ fn feeds_after(sign: Sign, feeds: usize) -> usize
     }
 }
 
-// The index that is left behind a sign.
+// The index that is left after a sign.
 fn index_after(sign: Sign, feeds: usize, index: usize) -> usize
     ensures { result ≡ rule.index_after sign feeds index }
 {
@@ -179,7 +179,7 @@ fn index_after(sign: Sign, feeds: usize, index: usize) -> usize
     }
 }
 
-// The bytes from a character to the end: the one with this index behind so many line feeds.
+// The bytes from a character to the end: the one with this index after so many line feeds.
 fn sign_left(text: &[u8], basic: bool, feeds: usize, index: usize) -> Option<usize>
     ensures { result ≡ rule.sign_left (length text.now) basic feeds index text.now }
 {
@@ -198,7 +198,7 @@ fn sign_left(text: &[u8], basic: bool, feeds: usize, index: usize) -> Option<usi
     None
 }
 
-// The place of a character of the text whose quotation mark stands at `mark`: the one with this index behind so many line feeds.
+// The place of a character of the text whose quotation mark is at `mark`: the one with this index after so many line feeds.
 fn character_place(file: &[u8], mark: usize, feeds: usize, index: usize) -> usize
     ensures { result ≡ rule.character_place file.now mark feeds index }
 {
@@ -241,7 +241,7 @@ fn mistake_path(alloc: Global, mistake: &Mistake) -> Result<String, AllocError>
     Ok(path)
 }
 
-// How many line feeds stand before a line of `text`.
+// How many line feeds come before a line of `text`.
 fn feeds_before(part: Part) -> usize
     ensures { result ≡ rule.feeds_before part }
 {
@@ -280,11 +280,7 @@ fn mark_of(alloc: Global, text: &str, mistake: &Mistake) -> Result<Option<usize>
 }
 
 /// The place of a mistake in an author's text, in bytes: that of the character, or of the value if it concerns the whole.
-pub(crate) fn mistake_place(
-    alloc: Global,
-    text: &str,
-    mistake: &Mistake,
-) -> Result<usize, AllocError>
+pub fn mistake_place(alloc: Global, text: &str, mistake: &Mistake) -> Result<usize, AllocError>
     ensures { IfOk result (rule.IsPlace text.now mistake.now) }
 {
     let mark = mark_of(alloc, text, mistake)?;

@@ -36,7 +36,7 @@ pub fn row_key(index: usize) -> &'static str
     nth_key(ROW_KEYS.as_slice(), index)
 }
 
-/// The characters of `text`; none where there is no text.
+/// The characters of `text`; none if there is no text.
 pub fn lines_in(alloc: Global, rows: &Table) -> Result<Vec<char>, AllocError>
     ensures { IfOk result (λ lines. lines.items ≡ rule.lines_in (table_view rows.now)) }
 {
@@ -109,7 +109,7 @@ pub struct PageRows<'a> {
     pub table: &'a Table,
 }
 
-// Puts the codes of a row into a table, or notes its first mark that has none.
+// Puts the codes of a row into a table, or notes its first mark that has no code.
 fn put_row(
     alloc: Global,
     out: &mut Table,
@@ -137,7 +137,7 @@ fn put_row(
     put_text(alloc, out, &written, mistakes)
 }
 
-// Whether a row stands by its number and in `text`.
+// Whether a row is given both by its number and in `text`.
 fn is_twice(rows: &PageRows<'_>, index: usize) -> bool
     requires { index < 24 }
     ensures { result ≡ rule.is_twice rows.now.lines.now (table_view rows.now.table.now) index }
@@ -145,7 +145,7 @@ fn is_twice(rows: &PageRows<'_>, index: usize) -> bool
     member(rows.table, row_key(index)).is_some() && !is_blank(line(rows.lines, index))
 }
 
-// Notes a row that stands by its number and in `text`.
+// Notes a row that is given both by its number and in `text`.
 fn note_twice(
     rows: &PageRows<'_>,
     index: usize,
@@ -178,14 +178,14 @@ fn all_white(text: &[char]) -> bool
     text.iter().all(|c| is_white(*c))
 }
 
-// Whether there is something behind line 24.
+// Whether there is something after line 24.
 fn is_long(lines: &[char]) -> bool
     ensures { result ≡ rule.is_long lines.now }
 {
     !all_white(rest_after(lines, 24))
 }
 
-// Notes that there is something behind line 24.
+// Notes that there is something after line 24.
 fn note_long(rows: &PageRows<'_>, mistakes: &mut Vec<Mistake>) -> Result<(), AllocError>
     ensures { OnOk result (mistakes.new.items ≡ mistakes.old.items ++ rule.long_mistakes rows.now.page (rule.is_long rows.now.lines.now)) }
 {

@@ -1,4 +1,4 @@
-//! Whether a service says what an author wrote.
+//! Whether a service has what an author wrote.
 
 ghost use Rattle.std.specs.Prelude.{◌≡◌, ◌<◌, ℕ, [], Ok, IsTrue, IfOk, option_map, slice_index_or};
 ghost use Rattle.toml.specs.Data.{get_item};
@@ -143,7 +143,7 @@ fn says_page(alloc: Global, author: &Table, page: &Page) -> Result<bool, AllocEr
     are_rows(alloc, author, option, page.rows())
 }
 
-/// Whether each page of a service says what the author's page at its index says.
+/// Whether each page of a service has what the author's page at its index has.
 pub fn says_texts(alloc: Global, author: &Table, service: &Service) -> Result<bool, AllocError>
     ensures { IfOk result (λ said. IsTrue said → rule.SaysTexts (table_view author.now) service.now) }
 {

@@ -33,7 +33,7 @@ fn row_of(codes: &[u8]) -> [u8; 40] {
     row
 }
 
-// What an author writes for codes, spaces at the end with them.
+// What an author writes for codes, with the spaces at the end.
 fn written(alloc: Global, codes: &[u8], option: NationalOption) -> Result<String, AllocError> {
     let mut text = String::new(alloc);
     for c in text_of(alloc, &row_of(codes), option)?.as_slice() {
@@ -124,7 +124,7 @@ fn pages_of(alloc: Global, pages: &[Value]) -> Result<Vec<Value>, AllocError> {
     Ok(out)
 }
 
-/// The table of a service as an author writes it, without the key `author`.
+/// The table of a service in the author's form, without the key `author`.
 pub(crate) fn author_of(alloc: Global, service: &Table) -> Result<Table, AllocError> {
     let mut out = copy_of(service)?;
     take_out(&mut out, "author");
@@ -153,7 +153,7 @@ pub(crate) fn first_lines(alloc: Global, source: &str) -> Result<String, AllocEr
     Ok(text)
 }
 
-/// The author's text of a table that is as an author writes it.
+/// The author's text of a table in the author's form.
 pub(crate) fn author_text(
     alloc: Global,
     author: &Table,

@@ -47,7 +47,7 @@ fn is_unseen(c: char) -> bool
     c < ' ' || c == '\u{7f}'
 }
 
-// Adds a character, or its number if it is not seen.
+// Adds a character, or its number if it is invisible.
 fn push_sign(text: &mut String, c: char) -> Result<(), AllocError>
     ensures { OnOk result (string_bytes text.new ≡ string_bytes text.old ++ rule.sign_text c) }
 {
@@ -127,7 +127,7 @@ fn names_with(alloc: Global, c: char) -> Result<Vec<&'static str>, AllocError>
     Ok(names)
 }
 
-// Adds names, commas between them.
+// Adds names, separated by commas.
 #[tactic(auto, unfolding(crate::specs::Words::name_list))]
 fn push_name_list(text: &mut String, names: &[&str]) -> Result<(), AllocError>
     ensures { OnOk result (string_bytes text.new ≡ string_bytes text.old ++ rule.name_list (map (λ name. name.now) names.now)) }
@@ -238,7 +238,7 @@ fn closing_brace(text: &[char]) -> Option<usize>
     text.iter().position(|c| *c == '}')
 }
 
-// The name behind a brace, up to the brace that closes it.
+// The name after a brace, up to the brace that closes it.
 fn name_behind(text: &[char]) -> Option<&[char]>
     ensures { option_map (λ name. name.now) result ≡ rule.name_behind text.now }
 {
@@ -352,7 +352,7 @@ fn push_words(
 }
 
 /// Adds what is wrong.
-pub(crate) fn push_fault(
+pub fn push_fault(
     alloc: Global,
     text: &mut String,
     author: &Table,

@@ -1,4 +1,4 @@
-//! The text of the table of a service: settings, packet 8/30 and pages, each with the comments that stand before it.
+//! The text of the table of a service: settings, packet 8/30 and pages, each with the comments before it.
 
 use crate::rows::row_key;
 use crate::tables::{array_at, member, put, table_at};
@@ -67,7 +67,7 @@ fn push_key(alloc: Global, text: &mut String, table: &Table, key: &str) -> Resul
     }
 }
 
-// Whether a value is written under a header of its own.
+// Whether a value is written below its own header.
 fn is_table(value: &Value) -> bool {
     value.as_table().is_some()
 }

@@ -1,6 +1,6 @@
 -- Texts in HTML.
 --
---   escaped, escaped_text   a reserved character as its entity, any other as itself; the same of a text
+--   escaped, escaped_text   a reserved character as its entity, any other as itself; the same for a text
 use Rattle.std.specs.Prelude.{ℕ, ◌==◌, List, codes, chars, flat_map, if◌then◌else◌, encode_utf8}
 
 unfoldable pub escaped : ℕ → List ℕ

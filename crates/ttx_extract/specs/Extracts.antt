@@ -1,4 +1,4 @@
--- What a service says of a cycle (profile), and why a cycle has no service text.
+-- The service of a cycle (profile), and why a cycle has no service text.
 --
 --   IsOfPages, AreOfPages    a header is a listed page's, or a time-filling one; each header is
 --   IsSentOften    how often a page is sent that has so many headers
@@ -7,13 +7,13 @@
 --   IsFirstReason           the reason of the first page that isn't sent unchanged
 --   UnlikeHeads, UnlikeRows, UnlikeLinks, Differs   two packets of an item with different contents
 --   IsUnlikeFirst           an item's first slot, and one that differs from it
---   NamesItem, IsConflict   the item of a reason; the same of the reason of the first page that isn't sent unchanged
---   IsBlamed                that reason, where no two slots differ
---   IsMinusZero, HasOffset  the first packet 8/30 has an offset that no text says; it has none
+--   NamesItem, IsConflict   the item of a reason; the same for the reason of the first page that isn't sent unchanged
+--   IsBlamed                that reason, if no two slots differ
+--   IsMinusZero, HasOffset  the first packet 8/30 has an offset that no text can have; it has none such
 --   IsWritten, IsSaid       the offset and the ids are such as a service has; the text of what the cycle sends says just that
---   IsNotSaid               why the text doesn't
+--   IsNotSaid               why the text does not
 --   Blames, AnswersFault    why pages aren't sent unchanged; why there is no text
---   Extracts                what is answered for a cycle and lines of a field
+--   Extracts                what is returned for a cycle and lines of a field
 use Rattle.std.specs.Prelude.{◌≡◌, ◌⊎◌, ℕ, ◌<◌, ◌≤◌, pos, unsigned_abs, true, List, [], take, length, Contains, slice_get, slice_index_or}
 use Rattle.std.specs.Prelude.{string_bytes, ⊤, Some, None, Result, Ok, Err}
 use Rattle.ttx_header.specs.Ids.{Id}
@@ -104,7 +104,7 @@ pub record IsFirstReason (slots : List (List ℕ)) (lines : ℕ) (page : Id) (re
   pub fault : IsPageFault slots (pages_of service) fields (Some reason)
   pub earlier : (n : ℕ) (p : Page) → n < place → slice_get (pages_of service) n ≡ Some p → Steady (repeated slots) (pages_of service) p
 
--- the reason tells of a slot of this item
+-- the reason names a slot of this item
 abbrev pub NamesItem : WitnessReason → Item → ℕ → Type 0
 NamesItem (HeadDiffers page slot) item other = (item ≡ TheHead) × (slot ≡ other)
 NamesItem (RowDiffers page slot) (TheRow r) other = slot ≡ other
@@ -170,7 +170,7 @@ Blames slots lines (Conflict page item first second) = IsConflict slots lines pa
 Blames slots lines (Reason reason) = IsBlamed slots lines reason
 Blames slots lines fault = ⊥
 
--- why there is no text; of these answers, but for that of wanting memory, one is true at most, and none where there is a text
+-- why there is no text; of these answers, except lack of memory, at most one is true, and none if there is a text
 abbrev pub AnswersFault : List (List ℕ) → ℕ → ExtractFault → Type 0
 AnswersFault slots lines (Info slot) = IsMinusZero slots slot
 AnswersFault slots lines (Service error) = (HasOffset slots × IsNamingFault (named slots) (Service error)) ⊎ IsNotSaid slots lines (Service error)

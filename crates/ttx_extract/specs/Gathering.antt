@@ -26,7 +26,7 @@ IsGatherFault slots (Service error) = HasOffset slots × IsNamingFault (named sl
 IsGatherFault slots NoMemory = ⊤
 IsGatherFault slots fault = ⊥
 
--- the first page that isn't sent unchanged, or memory is wanting
+-- the first page that is not sent unchanged, or lack of memory
 abbrev pub IsBlame : List (List ℕ) → ℕ → ExtractFault → Type 0
 IsBlame slots lines NoMemory = ⊤
 IsBlame slots lines fault = Blames slots lines fault

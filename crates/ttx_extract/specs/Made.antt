@@ -1,4 +1,4 @@
--- What is made of a draft: its text, and the service that is read from it.
+-- The text of a draft, and the service that is read from it.
 --
 --   Makes                   the text and the service, or why there are none
 use Rattle.std.specs.Prelude.{◌≡◌, ◌<◌, length, string_bytes, ⊤, Result, Ok, Err}
@@ -10,13 +10,13 @@ use Rattle.ttx_extract.specs.declared.extracting.Extracted.{Extracted}
 use Rattle.ttx_extract.specs.declared.faults.ExtractFault.{ExtractFault}
 use Rattle.ttx_extract.specs.declared.faults.ExtractFault.TheVariants.{Service, TooLong, Unsaid, NoMemory}
 
--- the text of the draft, and the service that it says, which is the draft
+-- the text of the draft, and its service, which is the draft
 pub record IsMade (d : ServiceFields) (made : Extracted) : Type 0 where
   pub text_is : string_bytes made.text ≡ service_text d
   pub says : IsServiceText (string_bytes made.text) made.service
   pub same : made.service ≡ d
 
--- why there is none: the text is too long, or it isn't a service definition, or it says another service
+-- why there is none: the text is too long, or it is not a service definition, or it is that of another service
 abbrev pub IsNotMade : ServiceFields → ExtractFault → Type 0
 IsNotMade d TooLong = most_bytes < length (service_text d)
 IsNotMade d (Service error) = IsServiceFault (service_text d) error

@@ -1,8 +1,8 @@
--- There is one service that says what a cycle sends first, none where a page isn't sent unchanged, and one answer for each cycle.
+-- There is one service that has what a cycle sends first, none if a page is not sent unchanged, and one answer for each cycle.
 --
 --   OnlyOneIsSent           two services that say what a cycle sends first are the same
---   BlamedHasNone           where the first page that isn't sent unchanged has a reason, no service is the cycle's
---   Outcome, outcome_of     the kinds of answers; the kind of an answer, and none where memory is wanting
+--   BlamedHasNone           if the first page that is not sent unchanged has a reason, the cycle has no service
+--   Outcome, outcome_of     the kinds of answers; the kind of an answer, none for lack of memory
 --   IsAnswer, AnswersAreOne an answer of `extract`; two of them for one cycle are of one kind
 use Rattle.std.specs.Prelude.{◌≡◌, ℕ, ◌≤◌, List, length, Option, Some, None, Result, Ok, Err, IfOk}
 use Rattle.ttx_source.specs.Services.{ServiceFields}

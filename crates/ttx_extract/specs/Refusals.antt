@@ -1,11 +1,11 @@
--- What is said of a cycle that has no service text: `refusal_text`.
+-- The words about a cycle that has no service text: `refusal_text`.
 use Rattle.std.specs.Prelude.{ℕ, List, [], ◌∷◌, ◌++◌, codes}
 use Rattle.std.specs.Fmt.{decimal}
 use Rattle.ttx_certify.specs.VerdictLines.{item_words, reason_text}
 use Rattle.ttx_extract.specs.declared.faults.ExtractFault.{ExtractFault}
 use Rattle.ttx_extract.specs.declared.faults.ExtractFault.TheVariants.{Conflict, Reason, Info, Unsaid}
 
--- nothing of a text that isn't a service definition, or too long, and of want of memory
+-- nothing for a text that is not a service definition or is too long, and for lack of memory
 abbrev pub refusal_text : ExtractFault → List ℕ
 refusal_text (Conflict page item first second) =
     item_words (codes "conflict") page item ++ 32 ∷ decimal first ++ 32 ∷ decimal second

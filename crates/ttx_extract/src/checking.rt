@@ -1,4 +1,4 @@
-//! The first page of a service that a cycle doesn't send unchanged.
+//! The first page of a service that a cycle does not send unchanged.
 
 ghost use Rattle.std.specs.Prelude.{◌≡◌, ℕ, List, MatchOption, Some, map, slice_get};
 ghost use Rattle.ttx_cycle.specs.Cycles.{slots_of};

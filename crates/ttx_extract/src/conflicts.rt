@@ -186,8 +186,8 @@ fn unlike_item(cycle: &Cycle, reason: &Reason) -> Option<Blamed>
     }
 }
 
-/// Why the page that was told isn't sent unchanged: two slots, where what one of them sends differs from the item's first
-/// transmission, and else the reason.
+/// Why the reported page is not sent unchanged: two slots, if what one of them sends differs from the item's first
+/// transmission, otherwise the reason.
 pub fn why(cycle: &Cycle, collected: &Collected, told: Told) -> ExtractFault
     ensures { (service : ServiceFields) (lines : ℕ) → AreAllSent (slots_of cycle.now) (pages_of service) lines collected.now →
         IsSentService (slots_of cycle.now) lines service → TellsPage (slots_of cycle.now) (pages_of service) told →

@@ -24,14 +24,14 @@ use ttx_cycle::{Cycle, MOST_BYTES};
 use ttx_source::{Service, read_service};
 use ttx_witness::{Collected, NoMemory, OtherSubpages};
 
-/// A text, and the service that it says.
+/// A text, and its service.
 #[derive(Drop)]
 pub struct Extracted {
     pub text: String,
     pub service: Service,
 }
 
-// Why the pages of a service aren't sent unchanged; none where they are.
+// Why the pages of a service are not sent unchanged; `None` if they are.
 fn blame(
     cycle: &Cycle,
     service: &Service,
@@ -48,7 +48,7 @@ fn blame(
     }
 }
 
-// The service that is what the cycle sends says what it sends first. It does nothing; it hands this to the caller's proof.
+// The service of a cycle has what the cycle sends first. It does nothing at run time; it gives this to the caller's proof.
 fn is_sent(cycle: &Cycle, service: &Service)
     ensures { (lines : ℕ) → service.now ≡ sent_draft (slots_of cycle.now) lines → IsSentService (slots_of cycle.now) lines service.now }
 {
@@ -101,7 +101,7 @@ fn text_of(alloc: Global, draft: &Draft) -> Result<String, ExtractFault>
     }
 }
 
-// The text of a draft, and the service that it says, which is the draft.
+// The text of a draft, and its service, which is the draft.
 fn make(alloc: Global, draft: &Draft) -> Result<Extracted, ExtractFault>
     ensures { Makes (draft_of draft.now) result }
 {
@@ -121,10 +121,10 @@ fn make(alloc: Global, draft: &Draft) -> Result<Extracted, ExtractFault>
 }
 
 /// The text of the service that a cycle sends, with these lines of a field, and the service. Pages stand in the order of their first
-/// headers, with the first transmission of each item; a row that isn't sent is spaces. Before it is answered the text is read, and
+/// headers, with the first transmission of each item; a row that isn't sent is spaces. Before it is returned, the text is read, and
 /// the cycle is compared with it as the certifier does.
 ///
-/// The first of these that holds is answered: `Info`, a minus zero in the packet 8/30; `Service`, more than 2,000 pages or one with
+/// The first of these that holds is returned: `Info`, a minus zero in the packet 8/30; `Service`, more than 2,000 pages or one with
 /// subcode 3F7F; `TooLong`, `Service` and `Unsaid`, of the text; `Conflict` or `Reason`, the first page that isn't sent unchanged.
 pub fn extract(alloc: Global, cycle: &Cycle, lines: u8) -> Result<Extracted, ExtractFault>
     ensures answer { Extracts (slots_of cycle.now) lines result }

@@ -1,4 +1,4 @@
-//! Why no text is made of a cycle.
+//! Why a cycle has no service text.
 
 use ttx_header::PageId;
 use ttx_page::Item;
@@ -26,8 +26,8 @@ pub enum ExtractFault {
     Service(SourceError),
     /// The text is longer than 4,194,304 bytes.
     TooLong,
-    /// The text is read as another service than it was written of.
+    /// The text is read back as another service than it was written from.
     Unsaid,
-    /// A growth was refused.
+    /// Memory ran out.
     NoMemory,
 }

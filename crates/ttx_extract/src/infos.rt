@@ -51,7 +51,7 @@ pub fn first_info(cycle: &Cycle) -> Option<FoundInfo>
     None
 }
 
-/// Whether two packets 8/30 say the same.
+/// Whether two packets 8/30 have the same contents.
 pub fn same_info(a: &Info, b: &Info) -> bool
     ensures { IsTrue result ↔ (a.now ≡ b.now) }
 {

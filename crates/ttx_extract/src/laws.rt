@@ -1,4 +1,4 @@
-//! What is proved of the service of a cycle. Each of these calls does nothing; it hands its law to the caller's proof.
+//! The laws of the service of a cycle. A call does nothing at run time, and gives the law to the caller's proof.
 
 ghost use Rattle.ttx_extract.specs.OnlyService.{OnlyOneIsSent, BlamedHasNone, AnswersAreOne};
 
@@ -9,14 +9,14 @@ pub fn one_service_is_sent()
     ttx_witness::judging_laws::transmissions_are_listed();
 }
 
-/// Where a cycle is refused because a page isn't sent unchanged, no service is the cycle's.
+/// If a cycle is refused because a page is not sent unchanged, it has no service.
 pub fn blamed_cycles_have_no_service()
     ensures { BlamedHasNone }
 {
     ttx_witness::judging_laws::transmissions_are_listed();
 }
 
-/// Two answers for one cycle are of one kind, but for want of memory: so each kind is answered exactly where its clause holds.
+/// Two answers for one cycle are of one kind, except for lack of memory: so each kind is given exactly where its clause holds.
 pub fn answers_are_one()
     ensures { AnswersAreOne }
 {

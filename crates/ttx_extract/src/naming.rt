@@ -19,10 +19,10 @@ use ttx_page::Page;
 use ttx_source::{SourceError, SourceFault};
 use ttx_witness::{NoMemory, header_in};
 
-// The page number of time-filling headers, which are no page's.
+// The page number of time-filling headers, which belong to no page.
 const TIME_FILLING: u8 = 0xff;
 
-// The subcode that no page has.
+// The subcode that no page may have.
 const NO_SUBPAGE: u16 = 0x3f7f;
 
 // The most pages of a service.
@@ -64,7 +64,7 @@ fn named_ids(alloc: Global, cycle: &Cycle) -> Result<IndexSet<PageId>, NoMemory>
     Ok(ids)
 }
 
-// A page that says nothing; none where no page has the id.
+// A blank page with an id; `None` if no page can have it.
 fn blank_page(id: PageId) -> Option<Page>
     requires { id.page ≢ 0xff }
     ensures { MatchOption result (id.sub ≡ 0x3f7f) (λ p. (page_of p).id ≡ id) }
@@ -78,7 +78,7 @@ fn blank_page(id: PageId) -> Option<Page>
     Page::new(id, Control(0), blank_head(), blank_rows(), links)
 }
 
-// Pages with these ids that say nothing.
+// Blank pages with these ids.
 fn blank_pages(alloc: Global, ids: &[PageId]) -> Result<Vec<Page>, ExtractFault>
     requires { (n : ℕ) (id : Id) → slice_get ids.now n ≡ Some id → id.page ≢ 0xff }
     ensures pages { IfOk result (λ pages. ids_of pages.items ≡ ids.now) }
@@ -100,7 +100,7 @@ fn blank_pages(alloc: Global, ids: &[PageId]) -> Result<Vec<Page>, ExtractFault>
     Ok(pages)
 }
 
-/// Pages that say nothing, with the ids that headers name, in the order of their first headers; at most 2,000.
+/// Blank pages with the ids that headers name, in the order of their first headers; at most 2,000.
 pub fn named_pages(alloc: Global, cycle: &Cycle) -> Result<Vec<Page>, ExtractFault>
     ensures pages { IfOk result (λ pages. ids_of pages.items ≡ named (slots_of cycle.now)) }
     ensures few { IfOk result (λ pages. length (named (slots_of cycle.now)) ≤ 2000) }

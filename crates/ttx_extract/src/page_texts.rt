@@ -42,7 +42,7 @@ fn push_target(text: &mut String, target: &Target) -> Result<(), AllocError>
     text.push('"')
 }
 
-/// Adds a link in quotation marks; nothing stands between them where it leads nowhere.
+/// Adds a link in quotation marks; if it leads nowhere, there is nothing between them.
 #[tactic(auto, unfolding(crate::specs::ServiceTexts::link_word))]
 pub fn push_link(text: &mut String, link: &Option<Target>) -> Result<(), AllocError>
     ensures { OnOk result (string_bytes text.new ≡ string_bytes text.old ++ link_word link.now) }
@@ -187,7 +187,7 @@ fn are_none(links: &[Option<Target>]) -> bool
     links.iter().all(|link| link.is_none())
 }
 
-// Adds six links where there is one.
+// Adds six links if there is one.
 #[tactic(auto, unfolding(crate::specs::ServiceTexts::six_text))]
 fn push_six(text: &mut String, six: &[Option<Target>; 6]) -> Result<(), AllocError>
     ensures { OnOk result (string_bytes text.new ≡ string_bytes text.old ++ six_text six.now) }

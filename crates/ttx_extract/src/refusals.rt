@@ -1,4 +1,4 @@
-//! What is said of a cycle that has no service text.
+//! The words about a cycle that has no service text.
 
 ghost use Rattle.std.specs.Prelude.{◌≡◌, ◌++◌, ◌∷◌, OnOk, string_bytes};
 ghost use Rattle.std.specs.Fmt.{decimal};
@@ -52,7 +52,7 @@ fn push_conflict(
     push_slots(text, slots.0, slots.1)
 }
 
-/// Adds why a cycle has no service text; nothing for the faults of the text itself, and for want of memory.
+/// Adds why a cycle has no service text; nothing for the faults of the text itself, and for lack of memory.
 pub fn push_refusal(text: &mut String, fault: &ExtractFault) -> Result<(), AllocError>
     ensures { OnOk result (string_bytes text.new ≡ string_bytes text.old ++ refusal_text fault.now) }
 {

@@ -27,7 +27,7 @@ pub struct SentPage {
     pub links: Links,
 }
 
-/// How often a page is sent that has so many headers: the most of 1, 2, 4 and 8 times that aren't more.
+/// How often a page with so many headers is sent: the greatest of 1, 2, 4 and 8 that is not more than these.
 pub fn often_for(headers: usize) -> u8
     ensures { result ≡ often_for headers }
 {
@@ -56,7 +56,7 @@ fn text_in(slot: &[u8; 42]) -> &[u8; 40]
     slot.last_chunk::<40>().unwrap()
 }
 
-// The characters of the row in a slot; spaces where there is none.
+// The characters of the row in a slot; spaces if there is none.
 fn said_row(slot: Option<&[u8; 42]>) -> [u8; 40]
     ensures { result ≡ row_of (option_map (λ s. s.now) slot.entry) }
 {
@@ -74,7 +74,7 @@ fn slot_of(sent: Transmission) -> usize
     sent.slot.unsigned_abs() as usize
 }
 
-// The slot of the first transmission of a list; none where there is none.
+// The slot of the first transmission of a list, if there is one.
 fn first_slot<'a>(cycle: &'a Cycle, sent: &[Transmission]) -> Option<&'a [u8; 42]>
     ensures { option_map (λ s. s.now) result ≡ first_slot (slots_of cycle.now) sent.now }
 {
@@ -172,7 +172,7 @@ fn no_links() -> Links
     Links::new([None; 6], false, [0; 2])
 }
 
-// The links in a slot; none where there is no X/27/0, or one of its bytes 3 to 39 can't be read.
+// The links in a slot; none if there is no X/27/0, or one of its bytes 3 to 39 cannot be read.
 fn said_links(slot: Option<&[u8; 42]>, mag: u8) -> Links
     requires low { 1 ≤ mag }
     requires high { mag ≤ 8 }

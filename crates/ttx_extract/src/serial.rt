@@ -19,7 +19,7 @@ fn header_serial(slot: &[u8; 42]) -> Option<bool>
     }
 }
 
-/// C11 of the first header, which says that magazines are sent one after another; clear where there is no header.
+/// C11 of the first header, which says that magazines are sent one after another; clear if there is no header.
 pub fn first_serial(cycle: &Cycle) -> bool
     ensures { result ≡ first_serial (slots_of cycle.now) }
 {

@@ -1,4 +1,4 @@
-//! Values as they stand in a text of TOML.
+//! Values as they are written in TOML.
 
 ghost use Rattle.std.specs.Prelude.{◌≡◌, ◌<◌, ◌≤◌, ◌++◌, ◌∷◌, [], OnOk, codes, flat_map, length, string_bytes, take};
 ghost use Rattle.std.specs.Fmt.{decimal};

@@ -1,4 +1,4 @@
--- A failing reception, told and drawn.
+-- A failing reception in sentences and as a picture.
 --
 --   failure_lines           what happened, and what differs
 --   failure_text            the same in a form, with the page as authored beside what the receiver shows

@@ -8,3 +8,5 @@ pub mod Unlike
 pub mod Beside
 pub mod Figures
 pub mod Failures
+pub mod Tellings
+pub mod Permitted

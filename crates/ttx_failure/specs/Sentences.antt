@@ -23,7 +23,7 @@ use Rattle.ttx_failure.specs.Places.{slot_of_run, place_text, time_text}
 use Rattle.ttx_failure.specs.declared.forms.FailureForm.{FailureForm}
 use Rattle.ttx_header.specs.Ids.{Id}
 
--- the numbers of a counter-run that are told are in range
+-- the printed numbers of a counter-run are in range
 pub record IsTellable (c : CounterRun) : Type 0 where
   pub lined : 1 ≤ c.lines
   pub bits : AreBits c.hits

@@ -1,6 +1,6 @@
--- What differs of what is shown and the page as it was authored.
+-- The differences between what is shown and the page as it was authored.
 --
---   compared, unlike_cells, is_unlike    the cells of a row that are compared; whether some differ; the same of row `number`
+--   compared, unlike_cells, is_unlike    the cells of a row that are compared; whether some differ; the same for row `number`
 --   same_link, unlike_links links that differ
 --   unlike_numbers          the names of the rows that differ
 --   unlike_text             which rows differ, and whether the links do
@@ -35,7 +35,7 @@ unlike_links (link ∷ links) [] = true
 unlike_links (link ∷ links) (one ∷ own) = not (same_link link one) || unlike_links links own
 
 unfoldable pub number_if : Bool → ℕ → List ℕ
-number_if unlike number = if unlike then codes " row " ++ decimal number else []
+number_if unlike number = if unlike then codes " row " ++ decimal number ++ codes "," else []
 
 -- rows as they are shown, the first of which is row `number`
 abbrev pub unlike_numbers : List (List Cell) → ℕ → List (List Cell) → List ℕ
@@ -44,9 +44,9 @@ unlike_numbers own number (cells ∷ rows) =
     number_if (is_unlike number cells (slice_index_or own number [])) number ++ unlike_numbers own (number + 1) rows
 
 unfoldable pub links_words : Bool → List ℕ
-links_words unlike = if unlike then codes " links" else []
+links_words unlike = if unlike then codes " links," else []
 
 unfoldable pub unlike_text : Screen → Screen → List ℕ
 unlike_text shown own =
-    codes "It shows otherwise, marked below:" ++ unlike_numbers own.cells 0 shown.cells ++ links_words (unlike_links shown.links own.links)
-    ++ codes "."
+    codes "It shows otherwise:" ++ unlike_numbers own.cells 0 shown.cells ++ links_words (unlike_links shown.links own.links)
+    ++ codes " as marked below."

@@ -1,4 +1,4 @@
-//! A failing reception, told and drawn.
+//! A failing reception in sentences and as a picture.
 
 ghost use Rattle.std.specs.Prelude.{◌≡◌, ◌++◌, IfOk, OnOk, string_bytes};
 ghost use Rattle.ttx_counter.specs.Counters.{counter_run_of};
@@ -23,11 +23,11 @@ use ttx_render::{View, render};
 
 /// A counter-run of a page of a cycle, and what its receiver does and holds.
 #[derive(Clone, Copy)]
-pub struct Failure<'a> {
-    pub cycle: &'a Cycle,
-    pub page: &'a Page,
-    pub counter: &'a Counter,
-    pub followed: &'a Followed,
+pub(crate) struct Failure<'a> {
+    pub(crate) cycle: &'a Cycle,
+    pub(crate) page: &'a Page,
+    pub(crate) counter: &'a Counter,
+    pub(crate) followed: &'a Followed,
 }
 
 // What is shown, and the page as it was authored.
@@ -112,7 +112,7 @@ fn push_html(text: &mut String, told: &Told<'_>, views: Views<'_>) -> Result<(),
 
 /// A failing reception in a form: what happened, in sentences, and the page as it was authored beside what the receiver shows. At most
 /// twenty wrong bytes and twenty choices are listed, with the number of the others. `Err` if memory runs out.
-pub fn failure_text(
+pub(crate) fn failure_text(
     alloc: Global,
     form: FailureForm,
     failure: &Failure<'_>,

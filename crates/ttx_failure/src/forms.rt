@@ -1,11 +1,11 @@
-//! The forms in which a failure is told.
+//! The forms in which a failure is written.
 
 ghost use Rattle.std.specs.Prelude.{◌≡◌, ◌++◌, OnOk, string_bytes};
 ghost use Rattle.ttx_failure.specs.Forms as rule;
 
 use std::alloc::AllocError;
 
-/// A form in which a failure is told.
+/// A form in which a failure is written.
 #[derive(Clone, Copy)]
 pub enum FailureForm {
     /// Lines of text.

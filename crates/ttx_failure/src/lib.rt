@@ -1,4 +1,4 @@
-//! Failing receptions, told in sentences and drawn: the page as it was authored beside what the receiver of a counter-run shows.
+//! Failing receptions in sentences and as a picture: the page as it was authored beside what the receiver of a counter-run shows.
 #![tactic(auto)]
 
 mod beside;
@@ -7,10 +7,12 @@ mod failures;
 mod figures;
 mod forms;
 mod hits;
+pub mod laws;
 mod packets;
 mod places;
 mod sentences;
+mod tellings;
 mod unlike;
 
-pub use failures::{Failure, failure_text};
 pub use forms::FailureForm;
+pub use tellings::tell_failure;

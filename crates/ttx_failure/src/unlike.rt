@@ -1,4 +1,4 @@
-//! What differs of what is shown and the page as it was authored.
+//! The differences between what is shown and the page as it was authored.
 
 ghost use Rattle.std.specs.Prelude.{◌≡◌, ◌≤◌, ◌==◌, ◌++◌, if◌then◌else◌, OnOk, length, string_bytes};
 ghost use Rattle.ttx_failure.specs.Unlike as rule;
@@ -72,7 +72,7 @@ fn push_number_if(text: &mut String, unlike: bool, number: usize) -> Result<(), 
     ensures { OnOk result (string_bytes text.new ≡ string_bytes text.old ++ rule.number_if unlike number) }
 {
     if unlike {
-        write!(text, " row {number}")
+        write!(text, " row {number},")
     } else {
         Ok(())
     }
@@ -98,7 +98,7 @@ fn push_links_words(text: &mut String, unlike: bool) -> Result<(), AllocError>
     ensures { OnOk result (string_bytes text.new ≡ string_bytes text.old ++ rule.links_words unlike) }
 {
     if unlike {
-        text.push_str(" links")
+        text.push_str(" links,")
     } else {
         Ok(())
     }
@@ -109,8 +109,8 @@ fn push_links_words(text: &mut String, unlike: bool) -> Result<(), AllocError>
 pub(crate) fn push_unlike(text: &mut String, shown: &View, own: &View) -> Result<(), AllocError>
     ensures { OnOk result (string_bytes text.new ≡ string_bytes text.old ++ rule.unlike_text shown.now own.now) }
 {
-    push_words(text, "It shows otherwise, marked below:")?;
+    push_words(text, "It shows otherwise:")?;
     push_numbers(text, &shown.cells, &own.cells)?;
     push_links_words(text, unlike_links(&shown.links, &own.links))?;
-    push_words(text, ".")
+    push_words(text, " as marked below.")
 }

@@ -1,9 +1,9 @@
--- What goes out at each answer.
+-- What goes out for each answer.
 --
 --   WritesLine              all the bytes of a line went out, or exactly the first `written`
 --   WritesBoth              a file and then a line
---   WritesAnswer            the line of an answer went out, or its first `written` bytes; else nothing, and why the files are refused
---   IsUntouched, is_write   at each fault but that of a write what could be written to is as it was, whatever readers tell
+--   WritesAnswer            the line of an answer went out, or its first `written` bytes; otherwise nothing, and why the files are refused
+--   IsUntouched, is_write   after any fault except that of a write, the writers are unchanged, whatever the readers return
 use Rattle.std.specs.Prelude.{◌≡◌, ℕ, ◌-◌, ◌<◌, Bool, true, false, List, ◌++◌, length, take, ⊤, Option, Result, Ok, Err}
 use Rattle.std.specs.Io.KnownBytes.{Appends, Keeps}
 use Rattle.ttx_files.specs.declared.faults.FilesFault.{FilesFault}
@@ -22,7 +22,7 @@ WritesBoth bytes line file_old file_new old new (Err (Write written)) =
     (written < length (bytes ++ line)) × Appends file_old file_new (take written bytes) × Appends old new (take (written - length bytes) line)
 WritesBoth bytes line file_old file_new old new (Err _) = ⊥
 
--- Ok: the line of the answer went out. A write fault: its first `written` bytes. Else nothing, and why the files are refused.
+-- Ok: the line of the answer went out. A write fault: its first `written` bytes. Otherwise nothing, and why the files are refused.
 abbrev pub WritesAnswer : {V : Type 0} → (V → List ℕ → Type 0) → (FilesFault → Type 0) → Option (List ℕ) → Option (List ℕ) →
     Result V FilesFault → Type 0
 WritesAnswer Answers Refused old new (Ok verdict) = (line : List ℕ) × Answers verdict line × Appends old new line
@@ -30,7 +30,7 @@ WritesAnswer {V} Answers Refused old new (Err (Write written)) =
     (line : List ℕ) × (verdict : V) × Answers verdict line × (written < length line) × Appends old new (take written line)
 WritesAnswer Answers Refused old new (Err fault) = Refused fault × Keeps old new
 
--- Ok and the faults of writes say nothing; at each other fault a writer is as it was.
+-- Ok and the faults of writes say nothing; after any other fault a writer is unchanged.
 abbrev pub IsUntouched : {T F W : Type 0} → (F → Bool) → Result T F → W → W → Type 0
 IsUntouched is_write (Ok answer) old new = ⊤
 IsUntouched is_write (Err fault) old new = is_write fault ≡ false → new ≡ old

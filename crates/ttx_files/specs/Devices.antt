@@ -8,7 +8,7 @@
 --   AllRight                what was read at these devices is as it should be
 --   failed_at               the place of which an answer says that its device failed
 --   text_place, place_of    the place of a text, and of the file that a fault is of
---   IsAmong, IsOf           the fault is of a file at one of these places, or want of memory
+--   IsAmong, IsOf           the fault is of a file at one of these places, or lack of memory
 use Rattle.std.specs.Prelude.{◌≡◌, ◌⊎◌, ℕ, List, [], ◌∷◌, ⊤, Option, Some, None, IfSome, Result, Err}
 use Rattle.ttx_cycle.specs.Counts.{HasRisen}
 use Rattle.ttx_cycle.specs.Files.{IsPacketFile}
@@ -42,7 +42,7 @@ input place bytes old new = record { place = place; bytes = bytes; old = old; ne
 abbrev pub output : ℕ → ℕ → Device
 output old new = record { place = AtOutput; bytes = None; old = old; new = new }
 
--- the bytes are those of a packet file, of a service definition or of a certificate; of other places nothing is said
+-- the bytes are those of a packet file, of a service definition or of a certificate; other places may hold anything
 abbrev pub IsRight : Place → Option (List ℕ) → Type 0
 IsRight AtCycle known = IfSome known (λ bytes. (slots : List (List ℕ)) × IsPacketFile bytes slots)
 IsRight AtService known = IfSome known (λ bytes. (service : ServiceFields) × IsServiceText bytes service)

@@ -1,4 +1,4 @@
--- What is answered for the bytes of several files, which are read in order.
+-- What is returned for the bytes of several files, which are read in order.
 --
 --   IsRefusedText, IsRefusedServed, IsRefused       why a service definition and a certificate are refused; a packet file and a service
 --                                                   definition; all three. Those before the one that is refused are as they should be.

@@ -1,7 +1,7 @@
 -- The verdict on a packet file, a service definition and a certificate.
 --
 --   IsJudged        the three files are such, and this is the verdict on what they say, with its line
---   JudgesFiles     what is told of three files: this, or why they are refused
+--   JudgesFiles     the result for three files: this, or why they are refused
 --   AnswersFiles    what has been written, for each answer
 use Rattle.std.specs.Prelude.{ℕ, List, Option, Result}
 use Rattle.ttx_cycle.specs.Files.{IsPacketFile}

@@ -1,7 +1,7 @@
--- What goes out of what is told.
+-- What is written of a result.
 --
---   IsTold          what is told of some files: the verdict and its line; or why the files are refused
---   Tells           the line went out and the verdict is answered; a fault that is told is answered, and nothing goes out
+--   IsTold          the result for some files: the verdict and its line; or why the files are refused
+--   Tells           the line went out and the verdict is returned; or a fault is returned, and nothing goes out
 use Rattle.std.specs.Prelude.{◌≡◌, ℕ, ◌<◌, List, length, take, string_bytes, Option, Result, Ok, Err}
 use Rattle.std.specs.Io.KnownBytes.{Appends}
 use Rattle.ttx_cycle.specs.Counts.{HasRisen}

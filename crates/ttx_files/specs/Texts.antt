@@ -1,11 +1,11 @@
--- The texts of a command, and what is answered for the bytes of one file.
+-- The texts of a command, and what is returned for the bytes of one file.
 --
 --   IsServiceText, IsCertificateText        what the two texts are
---   IsServiceFault, IsCertificateFault      why a text is none
+--   IsServiceFault, IsCertificateFault      why a text is not one
 --   viewed_by               an answer, with its value as a plain record
---   ReadsPackets, ReadsServiceText, ReadsService, ReadsWitness      what is answered for the bytes of a packet file, of a text, a service
+--   ReadsPackets, ReadsServiceText, ReadsService, ReadsWitness      what is returned for the bytes of a packet file, of a text, a service
 --                           definition, a certificate
---   ReadsSlots              what is answered for the bytes of a packet file whose slots are given one by one; P holds of all of them
+--   ReadsSlots              what is returned for the bytes of a packet file whose slots are given one by one; P holds of all of them
 --   of_text, IsUnread       why a text is not read, as a fault of this text, and that a fault is one of these
 use Rattle.std.specs.Prelude.{◌≡◌, ◌⊎◌, ℕ, ◌<◌, ◌≤◌, List, length, ⊤, Result, Ok, Err, Vec}
 use Rattle.std.specs.declared.alloc.Global.{Global}
@@ -28,7 +28,7 @@ use Rattle.ttx_files.specs.declared.faults.FilesFault.TheVariants.{Cycle, Servic
 use Rattle.ttx_files.specs.declared.faults.TextFile.{TextFile}
 use Rattle.ttx_files.specs.declared.faults.TextFile.TheVariants as text
 
--- a text that isn't too long, and the service that it says
+-- a text that is not too long, and its service
 pub record IsServiceText (bytes : List ℕ) (service : ServiceFields) : Type 0 where
   pub most : length bytes ≤ most_bytes
   pub says : read_bytes bytes ≡ Ok service

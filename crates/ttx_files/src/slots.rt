@@ -21,7 +21,7 @@ pub trait SlotTaker {
     ghost none: { (start : Self) → took start start [] };
 }
 
-/// Reads a packet file and gives its slots to a taker, one by one. Its faults are those of `read_cycle`, as `Cycle`, but for
+/// Reads a packet file and gives its slots to a taker, one by one. Its faults are those of `read_cycle`, as `Cycle`, except
 /// `NoMemory`: no slot is kept, and no memory is allocated.
 pub fn read_slots<R: Read, T: SlotTaker>(
     reader: &mut Counted<R>,

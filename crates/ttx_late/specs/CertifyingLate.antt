@@ -1,4 +1,4 @@
--- What is answered and written when a packet file, a service definition and a certificate are certified for receivers that show pages late.
+-- What is returned and written when a packet file, a service definition and a certificate are certified for receivers that show pages late.
 --
 --   CertifiesLate           the verdict on three inputs, and its line
 --   CertifiesFilesLate      what has been written, for each answer

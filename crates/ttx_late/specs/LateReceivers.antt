@@ -1,5 +1,5 @@
 -- Receivers that show a page late: they gather it in one memory and show it from another (EN 300 706 leaves open when a page is shown;
--- most software decoders show it when storing ends). They may show it at other slots too, so receivers that show each row as it comes
+-- libzvbi's decoder shows it when storing ends). They may show it at other slots too, so receivers that show each row as it comes
 -- also belong to this class.
 --
 --   LateMemory              what such a receiver gathers, and what it shows

@@ -1,4 +1,4 @@
-//! Receivers that show a page late, as most software decoders do: what a cycle must send so that they show each page, and the
+//! Receivers that show a page late, as libzvbi's decoder does: what a cycle must send so that they show each page, and the
 //! certifier's verdict for them.
 //!
 //! Three choices:

@@ -1,7 +1,7 @@
 -- Instants as texts, as Temporal writes them (ISO 8601, RFC 9557).
 --
---   IsInstantText, IsNoInstantText          the text is an instant, in nanoseconds since 1970-01-01; it is none
---   IsDateTimeText, IsNoDateTimeText        the text is a date and a time of day, without an offset; it is none
+--   IsInstantText, IsNoInstantText          the text is an instant, in nanoseconds since 1970-01-01; it is not
+--   IsDateTimeText, IsNoDateTimeText        the text is a date and a time of day, without an offset; it is not
 --   zone_instant            the instant at which the clock of a zone shows a datetime; of two the earlier, and in a gap by the offset before it
 --   IsRead                  the instant that a text names: an instant itself, or a datetime by the clock of the zone
 use Rattle.std.specs.Prelude.{◌≡◌, ◌⊎◌, ℕ, ℤ, List, Option, Some, None, Ok, IsErr}
@@ -23,7 +23,7 @@ IsNoDateTimeText text = IsErr (parse_datetime text)
 abbrev pub zone_instant : TimeZone → DateTime → ℤ
 zone_instant zone dt = instant_of dt (compatible_offset (ambiguous_at zone dt))
 
--- Where the text is no instant: it is no datetime either, or its instant is out of range.
+-- If the text is no instant: it is no datetime either, or its instant is out of range.
 abbrev pub IsRead : TimeZone → List ℕ → Option Timestamp → Type 0
 IsRead zone text (Some instant) = IsInstantText text instant.nanosecond
     ⊎ (IsNoInstantText text × ((dt : DateTime) × IsDateTimeText text dt × (instant.nanosecond ≡ zone_instant zone dt)))

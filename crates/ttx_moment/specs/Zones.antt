@@ -17,6 +17,6 @@ instant_after start seconds =
 abbrev pub by_offset : Moment → ℤ → Moment
 by_offset t offset = record t { ahead = ahead offset; offset = Some (offset_of offset) }
 
--- the rules of the very second
+-- the rules in force at this second
 abbrev pub zone_time : TimeZone → Moment → ℕ → Moment
 zone_time zone start seconds = by_offset (seconds_later start seconds) (offset_at zone (instant_after start seconds))

@@ -24,8 +24,8 @@ fn clock_time(mjd: u32, second: u32) -> Option<DateTime>
     }
 }
 
-/// The moment at which the clock of the zone shows a Modified Julian Date and a second of its day. A time that the clock shows twice is the earlier
-/// one, and one that it skips counts by the offset before. `None` if the date has more than five digits, if the second is not below 86,400, or if
+/// The moment at which the clock of the zone shows a Modified Julian Date and a second of its day. If the clock shows the time twice, it is the earlier
+/// one; if it skips the time, the offset before counts. `None` if the date has more than five digits, if the second is not below 86,400, or if
 /// the moment is before 1970 or from MJD 100,000 on, in UTC.
 pub fn moment_by_clock(mjd: u32, second: u32, zone: &TimeZone<'_>) -> Option<Moment>
     ensures { IsNamed (plain_zone zone.now) mjd second result }

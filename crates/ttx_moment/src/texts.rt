@@ -32,7 +32,7 @@ fn datetime_in(text: &str) -> Option<DateTime>
 }
 
 /// The instant that an ISO text names: `2026-11-25T12:00:00Z` and the like with an offset, or `2026-11-25T12:00:00` by the clock of the zone. A time
-/// that the clock shows twice is the earlier one, and one that it skips counts by the offset before. `None` if the text is neither, or names
+/// that the clock shows twice is the earlier one; for one that it skips, the offset before counts. `None` if the text is neither, or names
 /// an instant out of range.
 pub fn read_instant(text: &str, zone: &TimeZone<'_>) -> Option<Timestamp>
     ensures { IsRead (plain_zone zone.now) text.now result }

@@ -7,6 +7,7 @@ mod FirstState
 mod CountedCells
 mod LongestStreaks
 mod WrongBytes
+mod DueSlots
 pub mod HeardFeeds
 mod HeardMore
 mod MisfitCounts

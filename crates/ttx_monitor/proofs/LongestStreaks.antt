@@ -8,7 +8,7 @@ use Rattle.ttx_counter.specs.Streaks.{StreaksDecide}
 use Rattle.ttx_counter.specs.Cells.{is_text}
 use Rattle.ttx_monitor.specs.Watching.{Watched, sent_at, IsWithin}
 use Rattle.ttx_monitor.specs.Places.{is_at, IsTable}
-use Rattle.ttx_monitor.specs.Streaks.{place_at, sends_at, streak, base, AreStreaks, IsLargestIn, HasStreak, IsLongest}
+use Rattle.ttx_monitor.specs.Streaks.{place_at, sends_at, streak, base, AreStreaks, AreTextsRight, IsLargestIn, HasStreak, IsLongest}
 use Rattle.ttx_monitor.specs.Totals.{with_repeat, IsLongestStreak}
 use Rattle.ttx_monitor.specs.declared.places.RowPlace.{RowPlace}
 use Rattle.ttx_monitor.proofs.FeedStreaks.{same, unsent, right, latest, grown, owned}
@@ -74,13 +74,13 @@ module _ (w : Watched) (table : List (Option RowPlace)) (feed : List (List ℕ))
       λ i r x lt low text h. absurd (both_ways _ (ap (is_at i r) none) h) in
       record { each = each_more longest longest (omega arith) l now; some = some_more longest longest (omega arith) l now refl }
 
-  -- it is received as it was sent
-  pub unchanged : (longest : ℕ) → slot ≡ sent_at w n → IsLongest w table feed longest → IsLongest w table more longest
-  unchanged longest e l =
+  -- its text is right
+  pub unchanged : (longest : ℕ) → AreTextsRight w table feed slot → IsLongest w table feed longest → IsLongest w table more longest
+  unchanged longest texts l =
       let now : (i r x : ℕ) → i < length w.pages → r < 25 → is_text r x ≡ true → sends_at w table i r n ≡ true →
       min w.repeat (streak w table more i r x (n + 1)) ≤ longest =
       λ i r x lt low text h.
-      let s = right w table feed slot i r x h (latest w table feed slot x ∙ ap not (eq-eqb _ _ (ap (λ z. get_or z x 0) e))) in omega arith in
+      let s = right w table feed slot i r x h (latest w table feed slot x ∙ ap not (eq-eqb _ _ (texts i r x h text))) in omega arith in
       record { each = each_more longest longest (omega arith) l now; some = some_more longest longest (omega arith) l now refl }
 
   -- the cells of its row are looked at

@@ -1,18 +1,18 @@
 -- How many bytes are wrong, while a feed grows by one slot.
-use Rattle.std.proofs.Common.{◌≡◌, ℕ, zero, suc, ◌+◌, ◌≤◌, Bool, true, false, not, ◌==◌, List, [], ◌∷◌, ◌++◌, length, get_or}
+use Rattle.std.proofs.Common.{◌≡◌, ℕ, zero, suc, ◌+◌, ◌<◌, ◌≤◌, Bool, true, false, not, ◌==◌, ◌||◌, if◌then◌else◌, List, [], ◌∷◌, ◌++◌, length, get_or}
 use Rattle.std.proofs.Common.{refl, ap, ◌∙◌, inl, inr, arith, eq-eqb, eqb-true}
 use Rattle.std.proofs.lemmas.Bool.{cases_Bool}
 use Rattle.std.proofs.lemmas.List.{get_or_append_left, get_or_push}
-use Rattle.ttx_packet.specs.Slots.{kind_of}
+use Rattle.ttx_packet.specs.Slots.{kind_of, is_empty}
 use Rattle.ttx_monitor.specs.Watching.{Watched, sent_at}
-use Rattle.ttx_monitor.specs.Totals.{compared_bytes, count_to, sum_to, is_wrong, wrong_in, wrong_bits_at, wrong_bytes}
+use Rattle.ttx_monitor.specs.Totals.{compared_bytes, count_to, sum_to, is_wrong, wrong_in, wrong_bits_at, bits_in, wrong_bytes}
 use Rattle.std.specs.Int.Bits.{xor_self}
 use Rattle.ttx_code.specs.Words.{distance, ones}
 
-pub none_counted : (test : ℕ → Bool) (n : ℕ) → ((x : ℕ) → test x ≡ false) → count_to test n ≡ 0
+none_counted : (test : ℕ → Bool) (n : ℕ) → ((x : ℕ) → x < n → test x ≡ false) → count_to test n ≡ 0
 unfolding count_to
 none_counted test zero f = refl
-none_counted test (suc n) f = rw (f n) (none_counted test n f)
+none_counted test (suc n) f = rw (f n (omega arith)) (none_counted test n (λ x lt. f x (omega arith)))
 
 module _ (test : ℕ → Bool) (n : ℕ) where
   pub passed : test n ≡ true → count_to test (n + 1) ≡ count_to test n + 1
@@ -26,11 +26,6 @@ module _ (test : ℕ → Bool) (n : ℕ) where
 pub none_before : (test : ℕ → Bool) → count_to test 0 ≡ 0
 unfolding count_to
 none_before test = refl
-
--- a slot that is received as it was sent
-pub none_in : (sent received : List ℕ) → received ≡ sent → wrong_in sent received ≡ 0
-none_in sent received e = none_counted (is_wrong sent received) (compared_bytes (kind_of sent))
-    (λ x. ap not (eq-eqb _ _ (ap (λ s. get_or s x 0) e)))
 
 pub no_wrong : (w : Watched) → wrong_bytes w [] 0 ≡ 0
 unfolding wrong_bytes
@@ -64,10 +59,10 @@ module _ (sent received : List ℕ) (x : ℕ) where
   same_at e = ap not (eq-eqb (get_or received x 0) (get_or sent x 0) e)
 
 -- sums
-pub none_summed : (of : ℕ → ℕ) (n : ℕ) → ((x : ℕ) → of x ≡ 0) → sum_to of n ≡ 0
+none_summed : (of : ℕ → ℕ) (n : ℕ) → ((x : ℕ) → x < n → of x ≡ 0) → sum_to of n ≡ 0
 unfolding sum_to
 none_summed of zero f = refl
-none_summed of (suc n) f = let a = none_summed of n f in let b = f n in omega arith
+none_summed of (suc n) f = let a = none_summed of n (λ x lt. f x (omega arith)) in let b = f n (omega arith) in omega arith
 
 pub first_sum : (of : ℕ → ℕ) → sum_to of 0 ≡ 0
 unfolding sum_to
@@ -77,10 +72,20 @@ pub next_sum : (of : ℕ → ℕ) (n : ℕ) → sum_to of (n + 1) ≡ sum_to of 
 unfolding sum_to
 next_sum of n = let e : n + 1 ≡ suc n = omega arith in ap (sum_to of) e
 
-no_bits : (a : ℕ) → distance a a ≡ 0
+pub no_bits : (a : ℕ) → distance a a ≡ 0
 unfolding distance ones
 no_bits a = rw xor_self refl
 
--- no bit of a slot that is received as it was sent
-pub no_bits_in : (sent received : List ℕ) → received ≡ sent → (n : ℕ) → sum_to (wrong_bits_at sent received) n ≡ 0
-no_bits_in sent received e n = none_summed (wrong_bits_at sent received) n (λ x. ap (λ r. distance (get_or sent x 0) (get_or r x 0)) e ∙ no_bits (get_or sent x 0))
+none_either_way : (b : Bool) (n : ℕ) → n ≡ 0 → (if b then 0 else n) ≡ 0
+none_either_way true n e = refl
+none_either_way false n e = e
+
+-- a slot in which no byte is wrong
+module _ (sent received : List ℕ) (same : (x : ℕ) → x < compared_bytes (kind_of sent) → get_or received x 0 ≡ get_or sent x 0) where
+  pub none_in : wrong_in sent received ≡ 0
+  none_in = none_counted (is_wrong sent received) (compared_bytes (kind_of sent)) (λ x lt. ap not (eq-eqb _ _ (same x lt)))
+
+  pub no_bits_in : bits_in sent received ≡ 0
+  no_bits_in = none_either_way (is_empty sent || is_empty received) (sum_to (wrong_bits_at sent received) (compared_bytes (kind_of sent)))
+      (none_summed (wrong_bits_at sent received) (compared_bytes (kind_of sent))
+      (λ x lt. ap (λ b. distance (get_or sent x 0) b) (same x lt) ∙ no_bits (get_or sent x 0)))

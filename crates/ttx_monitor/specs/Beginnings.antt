@@ -1,7 +1,7 @@
--- A feed whose hearing begins.
+-- A feed before its first slot is judged.
 --
 --   IsOpened                its first period has been read: what it is, the slot of the cycle with which it begins, and what waits
---   IsBegun                 the same, and nothing has been heard
+--   IsBegun                 the same, and nothing has been judged
 use Rattle.std.specs.Prelude.{◌≡◌, ℕ, List, [], Option}
 use Rattle.ttx_page.specs.Pages.{Page}
 use Rattle.ttx_witness.specs.Coverage.{Certificate}

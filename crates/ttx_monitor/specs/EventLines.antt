@@ -1,9 +1,9 @@
--- The lines that are written while a feed is heard, and after it (profile).
+-- The lines that are written while a feed is read, and after it (profile).
 --
---   Telling                 how they are told: each breach or not, the pages, the slots of the cycle, the one with which the feed begins,
+--   Telling                 what they depend on: each breach or not, the pages, the slots of the cycle, the one with which the feed begins,
 --                           the slots of a field, and after how many slots the state
 --   shift_line, breach_line a slip; a breach
---   is_due, state_line      whether the state is told after so many slots; its line
+--   is_due, state_line      whether the state is reported after so many slots; its line
 --   event_text, told_text   what is written for one slot; for several
 --   no_text, breaches_text, broken_text     the line of a feed that breaks the rule
 --   a_minute                a count of a feed of so many slots, for 3,000 fields

@@ -36,7 +36,7 @@ IsShift w n bytes slot (Some by) =
     (MayBeReceivedAs (sent_at w n) slot → ⊥)
     × ((window : List (List ℕ)) × IsFirstPeriod w.cycle bytes window × IsSlip w.cycle window (place_of w n) (Some by))
 
--- the slot comes after the slots that were heard since the latest slip
+-- the slot comes after the slots that were judged since the latest slip
 pub record IsEvent (w : Watched) (slots : List (List ℕ)) (bytes slot : List ℕ) (e : Event) : Type 0 where
   pub shift : IsShift w (length slots) bytes slot e.shift
   pub breach : IsHeard (moved w (length slots) e.shift) (since slots e.shift) slot e.breach

@@ -1,7 +1,7 @@
--- The lines that say what is said of a feed (profile): words and numbers separated by one space, each line ended by 0A.
+-- The lines of a verdict on a feed (profile): words and numbers separated by one space, each line ended by 0A.
 --
 --   start_text, rest_text   where the feed begins, at the end of a line; the line for the bytes behind the last slot
---   yes_text                the line of a Yes
+--   yes_text                the yes line
 --   page_text, row_text     the id of a page of a list; a row, 0 for the header
 --   way_text                how a slot breaks the rule
 --   repeat_text             a byte that was wrong too often
@@ -56,7 +56,7 @@ way_text pages slot (Repeated t) = repeat_text pages t ++ codes " slot " ++ deci
 abbrev pub slipped_text : ℕ → List ℕ
 slipped_text slot = codes "no slot " ++ decimal slot ++ codes " shifted by "
 
--- J slots were lost, or -J inserted, as what is less
+-- J slots were lost, or -J inserted, whichever is less
 abbrev pub shift_text : ℕ → ℕ → List ℕ
 shift_text count by = if nat_lt count (2 * by) then codes "-" ++ decimal (count - by) else decimal by
 

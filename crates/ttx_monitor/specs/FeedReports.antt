@@ -1,14 +1,14 @@
 -- A feed that is reported while it comes (profile).
 --
---   telling_for             how it is reported, as it is asked for: its state after so many fields of a certificate's lines
+--   telling_for             how it is reported: as it is asked for, with its state every so many fields of a certificate's lines
 --   IsFirstBad              the latest of some slots is the first that breaks the rule, or at which the feed has slipped
---   IsReason                what ends the report: the end of the feed, or, where not each breach is reported, the first
---   IsSaid                  what is said at the end
---   IsReport                what is written and counted of the slots, and what is said at the end
+--   IsReason                what ends the report: the end of the feed, or the first breach if only that is reported
+--   IsSaid                  what the verdict at the end says
+--   IsReport                what is written and counted of the slots, and the verdict at the end
 --   EndsWith, ReportsFrom   what goes out, from the slot with which the feed begins on
---   IsUnbegun, WritesUnlike nothing goes out before that slot is known; of a feed that is none of packets that line alone
+--   IsUnbegun, WritesUnlike nothing goes out before that slot is known; for a feed without packets only the line that says so
 --   ReportsFeed             the same where that slot is named or found
---   IsEnded, rest_of        how the hearing has ended, and how many bytes follow the last slot
+--   IsEnded, rest_of        how the reading has ended, and how many bytes follow the last slot
 use Rattle.std.specs.Prelude.{◌≡◌, ◌⊎◌, ℕ, ◌*◌, ◌<◌, ◌≤◌, true, false, ⊤, List, [], ◌∷◌, ◌++◌, length, take, Option, Some, None, Result, Ok, Err}
 use Rattle.std.specs.Io.KnownBytes.{Appends, Keeps}
 use Rattle.ttx_page.specs.Pages.{Page}
@@ -85,7 +85,7 @@ abbrev pub IsUnbegun : {T : Type 0} → Option (List ℕ) → Option (List ℕ) 
 IsUnbegun old new (Err (follow.Feed fault)) = Keeps old new
 IsUnbegun old new _ = ⊥
 
--- a feed that is none of packets is not heard
+-- a feed without packets is not judged
 abbrev pub WritesUnlike : Unlike → Option (List ℕ) → Option (List ℕ) → Result (Option FeedVerdict) FollowFault → Type 0
 WritesUnlike u old new (Ok v) = (v ≡ Some (verdict.Unlike u)) × Appends old new (feed_text [] (verdict.Unlike u))
 WritesUnlike u old new (Err (follow.Write written)) =
@@ -100,7 +100,7 @@ ReportsFeed cycle pages c asked bytes old new result =
     ⊎ ((start : ℕ) × IsFoundIn cycle bytes None × BeginsAt cycle bytes asked.start start
     × ReportsFrom cycle pages c bytes (telling_for cycle pages c asked start) old new result))
 
--- how the hearing has ended, if no breach was passed over
+-- how the reading has ended, if no breach was passed over
 abbrev pub IsEnded : Followed → ℕ → Option Heard → Type 0
 IsEnded (End rest) breaches None = 1 ≤ breaches
 IsEnded (End rest) breaches (Some h) = (breaches ≡ 0) × (h ≡ heard.End rest)

@@ -1,4 +1,4 @@
--- What is said of a feed (profile).
+-- The verdict on a feed (profile).
 --
 --   IsFoundIn               what its first period, or what there is of it, is recognised as
 --   BeginsAt                the slot of the cycle with which the feed begins: the one that is named, or the one that is found
@@ -53,7 +53,7 @@ start_of (Yes start slots wrong streak rest) = start
 start_of (No start slot breach) = start
 start_of (Shifted start slot by count) = start
 
--- what is said of a feed of packets, for the start that it names
+-- the verdict on a feed of packets, for the start that it names
 abbrev pub IsVerdictOf : List (List ℕ) → List Page → Certificate → List ℕ → FeedVerdict → Type 0
 IsVerdictOf cycle pages c bytes (Unlike unlike) = ⊥
 IsVerdictOf cycle pages c bytes (Yes start slots wrong streak rest) = IsHeardWhole cycle pages c bytes start slots wrong streak rest

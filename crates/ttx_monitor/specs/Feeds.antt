@@ -1,7 +1,7 @@
--- A feed that is read slot by slot and heard until it ends or breaks the error rule (profile).
+-- A feed that is read slot by slot until it ends or breaks the error rule (profile).
 --
---   IsWhole, IsBroken, IsSlipped    how the hearing of a feed ends
---   IsEnding, IsOver        what is made of a slot ends the hearing; which cycle a monitor watches
+--   IsWhole, IsBroken, IsSlipped    how the reading of a feed ends
+--   IsEnding, IsOver        a slot ends the reading; which cycle a monitor watches
 --   HearsAll                what a monitor makes of a feed of these bytes
 use Rattle.std.specs.Prelude.{◌≡◌, ◌⊎◌, ℕ, ◌-◌, ◌^◌, ◌<◌, ◌≤◌, List, ◌++◌, length, Some, None}
 use Rattle.ttx_packet.specs.Slots.{IsSlot}
@@ -48,7 +48,7 @@ pub record IsSlipped (w : Watched) (bytes : List ℕ) (slot by : ℕ) : Type 0 w
   pub how : IsShift w (length feed) (received ++ rest) received (Some by)
   pub slot_is : slot ≡ length feed
 
--- what is made of a slot ends the hearing
+-- a slot ends the reading
 abbrev pub IsEnding : ℕ → Event → Heard → Type 0
 IsEnding slot e (End rest) = ⊥
 IsEnding slot e (Broken at breach) = (at ≡ slot) × (e.shift ≡ None) × (e.breach ≡ Some breach)

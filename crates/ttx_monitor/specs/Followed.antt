@@ -1,11 +1,11 @@
 -- A feed that is followed, and what is written of it while it comes (profile).
 --
---   telling_of              how it is told
+--   telling_of              what its lines depend on
 --   WritesEvent             what goes out for one slot
---   CountsFollowed, CountsWrites    a fault of the feed or of the writer is answered if one failed, and only then
+--   CountsFollowed, CountsWrites    a fault of the feed or of the writer is returned if one failed, and only then
 --   IsEnd                   what is left at the end of the feed
 --   IsClean                 a feed of which no slot breaks the rule
---   Follows                 what is heard and written at each answer
+--   Follows                 what is read and written for each answer
 use Rattle.std.specs.Prelude.{◌≡◌, ◌⊎◌, ℕ, ◌-◌, ◌^◌, ◌<◌, ◌≤◌, true, false, List, [], ◌∷◌, ◌++◌, length, take, map, Option, Result, Ok, Err}
 use Rattle.std.specs.Io.KnownBytes.{Appends, Keeps}
 use Rattle.ttx_page.specs.Views.{page_of}

@@ -1,6 +1,6 @@
 -- The last lines of a feed that is followed (profile).
 --
---   sum_text                what happens in a minute, where each breach is told
+--   sum_text                what happens in a minute, if each breach is reported
 --   last_text               the verdict, and, where breaches were passed over, how many there were
 use Rattle.std.specs.Prelude.{ℕ, if◌then◌else◌, List, [], ◌++◌, Option, Some, None}
 use Rattle.ttx_monitor.specs.FeedLines.{rest_text, feed_text}

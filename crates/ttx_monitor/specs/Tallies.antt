@@ -3,7 +3,7 @@
 --   capped                  a count, which stops at 2^64 - 1
 --   lost_of                 1 for a packet that was lost
 --   is_bad, bad_of          a slot that breaks the rule, or at which the feed has slipped; 1 for it
---   is_last                 such a slot ends the hearing, where not each one is told
+--   is_last                 such a slot ends the reading, if only the first one is reported
 --   nothing_yet, added, tally_of    before the first slot; after one more; after several
 use Rattle.std.specs.Prelude.{ℕ, ◌+◌, ◌-◌, ◌^◌, min, max, Bool, ◌||◌, ◌&&◌, not, if◌then◌else◌, List, [], ◌∷◌, Option, Some, is_some}
 use Rattle.ttx_monitor.specs.declared.breach.Breach.{Breach}

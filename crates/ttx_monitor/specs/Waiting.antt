@@ -1,4 +1,4 @@
--- Slots that have been read and are still to be heard.
+-- Slots that have been read and are still to be judged.
 --
 --   waiting                 these slots
 --   IsBehind, IsLeft        what follows them in the feed; the bytes from the first of them on

@@ -1,4 +1,4 @@
-//! The slots of a feed that have been read and are still to be heard.
+//! The slots of a feed that have been read and are still to be judged.
 
 ghost use Rattle.std.specs.Prelude.{◌≤◌, length};
 
@@ -7,7 +7,7 @@ use ttx_cycle::Counted;
 use ttx_files::FeedFault;
 use ttx_files::feeds::{Head, Next, next_slot};
 
-/// Slots that have been read, of which those from `at` on are still to be heard, and how many bytes follow them if the feed ends there.
+/// Slots that have been read, of which those from `at` on are still to be judged, and how many bytes follow them if the feed ends there.
 #[derive(Drop)]
 pub struct Ahead {
     slots: Vec<[u8; 42]>,
@@ -36,7 +36,7 @@ impl Ahead {
         }
     }
 
-    // Gives up the slots that have been heard, where they are all or many.
+    // Drops the slots that have been judged, if they are all or many.
     fn forget(&mut self) -> Result<(), FeedFault>
         ensures waiting { IfOk result (λ _. waiting self.new ≡ waiting self.old) }
         ensures end { self.new.end ≡ self.old.end }
@@ -134,7 +134,7 @@ impl Ahead {
         self.end
     }
 
-    /// The first slot has been heard.
+    /// The first slot has been judged.
     pub fn pass(&mut self)
         ensures waiting { (slot : List ℕ) (more : List (List ℕ)) → waiting self.old ≡ slot ∷ more → waiting self.new ≡ more }
         ensures end { self.new.end ≡ self.old.end }

@@ -1,7 +1,7 @@
 //! What a monitor is asked for.
 
-/// What a monitor is asked for: the slot of the cycle with which the feed begins, if it is named; whether it goes on after a breach, to the
-/// end of the feed, and tells each; and after how many fields, again and again, it tells its state, if it does.
+/// What a monitor is asked for: the slot of the cycle with which the feed begins, if it is named; whether it reports each breach up to the
+/// end of the feed, or stops at the first; and every how many fields it reports its state, if it does.
 #[derive(Clone, Copy)]
 pub struct Asked {
     pub start: Option<u32>,

@@ -1,4 +1,4 @@
-//! Begins to hear a feed.
+//! Begins to judge a feed.
 
 ghost use Rattle.std.specs.Prelude.{◌≤◌, ◌∷◌, [], ℕ, List, IfOk, IfSome, length};
 ghost use Rattle.ttx_cycle.specs.Counters.{inner_of, faults_of};
@@ -23,8 +23,8 @@ use ttx_files::feeds::read_head;
 use ttx_files::{FeedFault, Inputs};
 use ttx_recognition::{Unlike, recognise};
 
-/// A feed whose first period has been read: the slot of the cycle with which it begins, what it is if it is no feed of packets, and the slots
-/// that wait to be heard.
+/// A feed whose first period has been read: the slot of the cycle with which it begins, what it is if it has no packets of 42 bytes, and the slots
+/// that wait to be judged.
 #[derive(Drop)]
 pub struct Opened {
     pub start: u32,
@@ -32,7 +32,7 @@ pub struct Opened {
     pub ahead: Ahead,
 }
 
-/// A feed whose hearing begins.
+/// A feed before its first slot is judged.
 #[derive(Drop)]
 pub struct Begun<'a> {
     pub start: u32,
@@ -75,7 +75,7 @@ pub fn open<R: Read>(
     })
 }
 
-/// Begins to hear a feed with a monitor that has heard nothing yet. `Err` if a read fails or memory runs out.
+/// Begins to judge a feed with a new monitor. `Err` if a read fails or memory runs out.
 pub fn begin<'a, R: Read>(
     alloc: Global,
     inputs: &'a Inputs,

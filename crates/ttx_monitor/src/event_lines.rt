@@ -1,4 +1,4 @@
-//! The lines that are written while a feed is heard.
+//! The lines that are written while a feed is read.
 
 ghost use Rattle.std.specs.Prelude.{◌≡◌, ◌++◌, ◌∷◌, [], IfOk, OnOk, map, string_bytes};
 ghost use Rattle.ttx_page.specs.Views.{page_of};
@@ -13,8 +13,8 @@ use std::alloc::{AllocError, Global};
 use ttx_page::Page;
 use ttx_witness::NoMemory;
 
-/// How a feed is reported while it is heard: each breach or none; by the pages of the service, the number of slots of the cycle, the slot of
-/// the cycle with which the feed begins, and the slots of a field; and its state after so many slots, again and again, if at all.
+/// How a feed is reported while it is read: each breach or none; by the pages of the service, the number of slots of the cycle, the slot of
+/// the cycle with which the feed begins, and the slots of a field; and its state each time after so many slots, if at all.
 #[derive(Clone, Copy)]
 pub struct How<'a> {
     pub all: bool,
@@ -61,7 +61,7 @@ fn push_breach_line(
     }
 }
 
-// Appends the lines of a slot that breaks the rule, where each is told.
+// Appends the lines of a slot that breaks the rule, if each is reported.
 fn push_bad(text: &mut String, how: &How<'_>, tally: Tally, event: &Event) -> Result<(), AllocError>
     ensures { OnOk result (string_bytes text.new ≡ string_bytes text.old ++ bad_text (telling_of how.now) tally event.now) }
 {
@@ -72,7 +72,7 @@ fn push_bad(text: &mut String, how: &How<'_>, tally: Tally, event: &Event) -> Re
     Ok(())
 }
 
-// Whether the state is told after so many slots.
+// Whether the state is reported after so many slots.
 fn is_due(span: Option<u64>, slots: u64) -> bool
     ensures { result ≡ is_due span slots }
 {
@@ -93,7 +93,7 @@ fn push_state(text: &mut String, tally: Tally) -> Result<(), AllocError>
     )
 }
 
-// Appends it where it is told.
+// Appends it if it is due.
 fn push_state_line(text: &mut String, how: &How<'_>, tally: Tally) -> Result<(), AllocError>
     ensures { OnOk result (string_bytes text.new ≡ string_bytes text.old ++ state_line (telling_of how.now) tally) }
 {

@@ -1,4 +1,4 @@
-//! The lines that say what is said of a feed.
+//! The lines of a verdict on a feed.
 
 ghost use Rattle.std.specs.Prelude.{◌≡◌, ◌++◌, IfOk, OnOk, map, string_bytes};
 ghost use Rattle.ttx_page.specs.Views.{page_of};
@@ -29,7 +29,7 @@ pub fn push_rest(text: &mut String, rest: usize) -> Result<(), AllocError>
     }
 }
 
-// Appends the line of a Yes.
+// Appends the yes line.
 fn push_yes(
     text: &mut String,
     start: u32,

@@ -1,4 +1,4 @@
-//! Follows a feed, and writes what is told of it while it comes.
+//! Follows a feed, and writes its lines while it comes.
 
 ghost use Rattle.std.specs.Prelude.{◌≡◌, [], ℕ, List};
 ghost use Rattle.ttx_cycle.specs.Counters.{inner_of, faults_of};
@@ -20,7 +20,7 @@ use std::io::{Read, Write};
 use ttx_cycle::{Counted, WriteFault, write_bytes};
 use ttx_files::FeedFault;
 
-/// A feed that is heard: its monitor, the slots that wait, and what has been counted.
+/// A feed that is followed: its monitor, the slots that wait, and what has been counted.
 #[derive(Drop)]
 pub struct Following<'a> {
     pub monitor: Monitor<'a>,
@@ -38,14 +38,14 @@ pub enum FollowFault {
 }
 
 /// How the following ends: at the end of the feed, with so many bytes behind the last slot; or at this slot, which breaks the rule or at which
-/// the feed has slipped, where no more is told than the first one.
+/// the feed has slipped, if only the first one is reported.
 #[derive(Clone, Copy)]
 pub enum Followed {
     End { rest: usize },
     Stopped { slot: u64, event: Event },
 }
 
-// Writes what is told of a slot.
+// Writes the lines of a slot.
 fn tell<W: Write>(
     alloc: Global,
     how: &How<'_>,
@@ -69,7 +69,7 @@ fn tell<W: Write>(
     }
 }
 
-/// Hears a feed to its end, or to the first slot that breaks the rule if no more is told, and writes what is told of each slot before the next
+/// Follows a feed to its end, or to the first slot that breaks the rule if only that is reported, and writes the lines of each slot before the next
 /// one is read.
 pub fn follow<R: Read, W: Write>(
     alloc: Global,

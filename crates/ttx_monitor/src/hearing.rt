@@ -1,4 +1,4 @@
-//! Hears a feed to its end, or to the first slot that breaks the error rule.
+//! Reads a feed to its end, or to the first slot that breaks the error rule.
 
 ghost use Rattle.std.specs.Prelude.{◌≡◌, ◌≤◌, ◌∷◌, [], ℕ, List, None, IfOk, IfSome, MatchOption, length};
 ghost use Rattle.std.specs.List.{All};
@@ -31,7 +31,7 @@ use std::io::Read;
 use ttx_cycle::Counted;
 use ttx_files::{FeedFault, Inputs};
 
-/// How the hearing of a feed ends: at its end, with so many bytes behind the last slot; at the first breach; or where the feed has slipped
+/// How the reading of a feed ends: at its end, with so many bytes behind the last slot; at the first breach; or where the feed has slipped
 /// by so many slots. `slot` is the slot of the feed.
 #[derive(Clone, Copy)]
 pub enum Heard {
@@ -40,7 +40,7 @@ pub enum Heard {
     Slipped { slot: u64, by: usize },
 }
 
-// How the hearing ends with what is made of this slot, if it does.
+// How the reading ends with this slot, if it does.
 pub(crate) fn ending(slot: u64, event: &Event) -> Option<Heard>
     ensures { MatchOption result ((event.now.shift ≡ None) × (event.now.breach ≡ None)) (IsEnding slot event.now) }
 {
@@ -53,7 +53,7 @@ pub(crate) fn ending(slot: u64, event: &Event) -> Option<Heard>
     }
 }
 
-// Hears a feed to its end or to the first slot that breaks the rule.
+// Reads a feed to its end or to the first slot that breaks the rule.
 fn hear_all<R: Read>(
     monitor: &mut Monitor<'_>,
     ahead: &mut Ahead,
@@ -81,7 +81,7 @@ fn hear_all<R: Read>(
     Ok(Heard::End { rest: 0 })
 }
 
-// What is said of a feed that was heard.
+// The verdict on a feed that was read.
 pub(crate) fn verdict_of(monitor: &Monitor<'_>, start: u32, heard: Heard) -> FeedVerdict
     ensures start { start_of result ≡ start }
     ensures is { (cycle : List (List ℕ)) (pages : List Page) (c : coverage.Certificate) (bytes : List ℕ) → IsCycle cycle → ArePages pages →
@@ -110,7 +110,7 @@ pub(crate) fn verdict_of(monitor: &Monitor<'_>, start: u32, heard: Heard) -> Fee
     }
 }
 
-// Hears a feed slot by slot, to its end or to the first slot that breaks the error rule for a page of the service, and says which.
+// Reads a feed slot by slot, to its end or to the first slot that breaks the error rule for a page of the service, and returns which.
 pub(crate) fn watch<R: Read>(
     alloc: Global,
     inputs: &Inputs,

@@ -8,8 +8,8 @@ ghost use Rattle.ttx_witness.specs.Coverage.{limit as slots_to};
 ghost use Rattle.ttx_monitor.specs.Breaches.{first_told};
 
 use crate::breach::{Breach, TextByte};
-use crate::comparing::{slot_breach, wrong_bytes};
-use crate::counting::{Pair, clear_all, longest_with, no_streaks, note};
+use crate::comparing::{is_right, slot_breach, wrong_bytes};
+use crate::counting::{Pair, clear_all, clear_row, longest_with, no_streaks, note, text_end};
 use crate::places::RowPlace;
 use crate::table::table_of;
 use std::alloc::Global;
@@ -109,7 +109,7 @@ fn first_told(alone: Option<Breach>, repeated: Option<TextByte>) -> Option<Breac
 }
 
 impl<'a> Monitor<'a> {
-    ghost use Rattle.std.specs.Prelude.{◌≡◌, ◌≢◌, ◌↔◌, ◌<◌, ◌≤◌, ◌-◌, ◌^◌, min, ◌++◌, ◌∷◌, [], ℕ, List, IfOk, IsTrue, Some, None, length, map};
+    ghost use Rattle.std.specs.Prelude.{◌≡◌, ◌≢◌, ◌↔◌, ◌<◌, ◌≤◌, ◌-◌, ◌^◌, min, true, ◌++◌, ◌∷◌, [], ℕ, List, IfOk, IsTrue, Some, None, length, map};
     ghost use Rattle.std.specs.List.{AllPairs};
     ghost use Rattle.ttx_packet.specs.Slots.{IsSlot};
     ghost use Rattle.ttx_page.specs.Views.{page_of, ids_of};
@@ -122,6 +122,7 @@ impl<'a> Monitor<'a> {
     ghost use Rattle.ttx_monitor.specs.Laws.{IsSeenIn};
     ghost use Rattle.ttx_monitor.specs.Breaches.{IsHeard};
     ghost use Rattle.ttx_monitor.specs.Standing.{Stands};
+    ghost use Rattle.ttx_monitor.specs.RightSlots.{IsRightNext};
     ghost use Rattle.ttx_monitor.specs.Events.{place_of, moved};
     ghost use Rattle.ttx_monitor.specs.MostWrong.{IsMostWrong};
     ghost use Rattle.ttx_monitor.specs.Totals.{wrong_bytes, IsLongestStreak};
@@ -171,6 +172,32 @@ impl<'a> Monitor<'a> {
         })
     }
 
+    /// Whether no byte of the next slot of the feed is wrong. Allocates no memory.
+    pub(crate) fn is_right(&self, slot: &[u8; 42]) -> bool
+        ensures { (w : Watched) (feed : List (List ℕ)) → Stands self.now w feed → result ≡ true → IsRightNext w self.now.table.items feed slot.now }
+    {
+        is_slot(slot);
+        let place = place_at(self.table.as_slice(), self.at);
+        is_right(slot_at(self.cycle, self.at), slot, text_end(place))
+    }
+
+    /// Takes the next slot of the feed, in which no byte is wrong, without another look at it. Allocates no memory.
+    pub(crate) fn hear_right(&mut self)
+        ensures stands { (w : Watched) (feed : List (List ℕ)) (slot : List ℕ) → Stands self.old w feed →
+            IsRightNext w self.old.table.items feed slot → Stands self.new w (feed ++ slot ∷ []) }
+        ensures heard { (w : Watched) (feed : List (List ℕ)) (slot : List ℕ) → Stands self.old w feed →
+            IsRightNext w self.old.table.items feed slot → IsHeard w feed slot None }
+    {
+        ttx_packet::laws::rows_are_numbered();
+        ttx_page::laws::each_slot_turns();
+        ttx_page::laws::streams_move();
+        ttx_counter::laws::streaks_decide();
+        let place = place_at(self.table.as_slice(), self.at);
+        clear_row(&mut self.cells, place);
+        self.at = next(self.at, self.cycle.slots().len());
+        self.count = one_more(self.count);
+    }
+
     /// Takes the next slot of the feed, and returns how it breaks the error rule, if it does. Allocates no memory.
     pub fn hear(&mut self, slot: &[u8; 42]) -> Option<Breach>
         ensures stands { (w : Watched) (feed : List (List ℕ)) → Stands self.old w feed → Stands self.new w (feed ++ slot.now ∷ []) }
@@ -183,6 +210,10 @@ impl<'a> Monitor<'a> {
         ttx_page::laws::streams_move();
         ttx_counter::laws::streaks_decide();
         is_slot(slot);
+        if self.is_right(slot) {
+            self.hear_right();
+            return None;
+        }
         let sent = slot_at(self.cycle, self.at);
         let place = place_at(self.table.as_slice(), self.at);
         let pair = Pair {
@@ -221,7 +252,7 @@ impl<'a> Monitor<'a> {
         self.at
     }
 
-    /// The feed goes on so many slots further on in the cycle, and is heard as one that begins there. Allocates no memory.
+    /// The feed goes on so many slots further on in the cycle, and is judged as one that begins there. Allocates no memory.
     pub fn move_on(&mut self, by: usize)
         ensures { (w : Watched) (feed : List (List ℕ)) → Stands self.old w feed → by < length w.cycle →
             Stands self.new (moved w (length feed) (Some by)) [] }

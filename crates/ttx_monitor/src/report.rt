@@ -50,7 +50,7 @@ fn how_of<'a>(inputs: &'a Inputs, asked: Asked, start: u32) -> How<'a>
     }
 }
 
-// How the hearing has ended, unless breaches were passed over.
+// How the reading has ended, unless breaches were passed over.
 fn heard_of(followed: Followed, breaches: u64) -> Option<Heard>
     ensures { IsEnded followed breaches result }
 {
@@ -89,7 +89,7 @@ fn verdict_at(following: &Following<'_>, start: u32, followed: Followed) -> Opti
     }
 }
 
-// Writes what a feed is that is no feed of packets.
+// Writes what a feed is if it is no feed of packets.
 fn write_unlike<W: Write>(
     alloc: Global,
     unlike: Unlike,
@@ -137,7 +137,7 @@ fn conclude<W: Write>(
     }
 }
 
-/// Hears a feed slot by slot and reports it while it comes: each breach, if that is asked for, and the state after each so many fields; and at
+/// Reads a feed slot by slot and reports it while it comes: each breach, if that is asked for, and the state every so many fields; and at
 /// the end the verdict, or, where breaches were passed over, how many there were. Unless each breach is asked for, the report ends at the
 /// first one. Each line is written before the next slot is read.
 ///

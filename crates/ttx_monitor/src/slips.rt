@@ -24,7 +24,7 @@ fn first_packet(window: &[[u8; 42]]) -> Option<usize>
     None
 }
 
-// Whether less than half of the slots do not fit from this place on, and the packet fits, which is the first of them.
+// Whether less than half of the slots do not fit from this place on, and their first packet fits.
 fn goes_on(cycle: &Cycle, window: &[[u8; 42]], packet: usize, place: usize) -> bool
     requires slots { All IsSlot window.now }
     requires few { length window.now ≤ length (slots_of cycle.now) }
@@ -48,7 +48,7 @@ fn goes_off(cycle: &Cycle, window: &[[u8; 42]], place: usize) -> bool
     misfits_below(cycle, window, place, window.len() / 2 + 1).is_none()
 }
 
-/// By how many slots a feed has slipped that should go on with these slots from a place of the cycle: most of them do not fit there, but
+/// By how many slots a feed has slipped. It should go on with these slots from a place of the cycle: most of them do not fit there, but
 /// from so many slots on most of them do, and the first packet among them. The least such number; `None` if there is none.
 pub fn slip(cycle: &Cycle, window: &[[u8; 42]], place: usize) -> Option<usize>
     requires few { length window.now ≤ length (slots_of cycle.now) }

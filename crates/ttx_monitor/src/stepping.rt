@@ -1,10 +1,11 @@
-//! Hears one slot of a feed.
+//! Judges one slot of a feed.
 
-ghost use Rattle.std.specs.Prelude.{◌≡◌, [], ◌∷◌, ℕ, List, IfOk};
+ghost use Rattle.std.specs.Prelude.{◌≡◌, [], ◌∷◌, ℕ, List, IfOk, None};
 ghost use Rattle.ttx_packet.specs.Slots.{IsSlot};
 ghost use Rattle.ttx_cycle.specs.Counters.{inner_of, faults_of};
 ghost use Rattle.ttx_monitor.specs.Watching.{Watched};
 ghost use Rattle.ttx_monitor.specs.Standing.{Stands};
+ghost use Rattle.ttx_monitor.specs.RightSlots.{IsRightNext};
 ghost use Rattle.ttx_monitor.specs.Waiting.{IsLeft};
 ghost use Rattle.ttx_files.specs.Devices.{AtFeed, input, IsFirstFailure};
 ghost use Rattle.ttx_files.specs.Feeds.{failed_at};
@@ -56,7 +57,22 @@ pub fn shift_at<R: Read>(
     }
 }
 
-// What is made of a slot.
+// What is made of a slot in which no byte is wrong.
+fn right_event(monitor: &mut Monitor<'_>) -> Event
+    ensures { (w : Watched) (slots : List (List ℕ)) (slot : List ℕ) → Stands monitor.old w slots →
+        IsRightNext w monitor.old.table.items slots slot → IsHeardAs w slots slot None monitor.new result }
+{
+    monitor.hear_right();
+    Event {
+        shift: None,
+        breach: None,
+        wrong: 0,
+        bits: 0,
+        streak: monitor.streak(),
+    }
+}
+
+// What is made of any slot.
 fn event_of(monitor: &mut Monitor<'_>, slot: &[u8; 42], shift: Option<usize>) -> Event
     ensures { (w : Watched) (slots : List (List ℕ)) → Stands monitor.old w slots → IsHeardAs w slots slot.now shift monitor.new result }
 {
@@ -72,7 +88,7 @@ fn event_of(monitor: &mut Monitor<'_>, slot: &[u8; 42], shift: Option<usize>) ->
     }
 }
 
-/// Hears the next slot of a feed, or finds its end.
+/// Judges the next slot of a feed, or finds its end.
 pub fn hear_next<R: Read>(
     monitor: &mut Monitor<'_>,
     ahead: &mut Ahead,
@@ -89,6 +105,11 @@ pub fn hear_next<R: Read>(
         let rest = ahead.end().unwrap_or(0);
         return Ok(Step::End { rest });
     };
+    if monitor.is_right(&slot) {
+        ahead.pass();
+        let event = right_event(monitor);
+        return Ok(Step::Heard { event });
+    }
     let shift = shift_at(monitor, ahead, feed, &slot)?;
     ahead.pass();
     let event = event_of(monitor, &slot, shift);

@@ -53,7 +53,7 @@ fn push_all(text: &mut String, lost: u64, bits: u64) -> Result<(), AllocError>
     write!(text, "total lost {lost} bits {bits}")
 }
 
-// Appends the same of a minute, and the end of the line.
+// Appends the same for a minute, and the end of the line.
 fn push_minute(text: &mut String, lost: u64, bits: u64) -> Result<(), AllocError>
     ensures { OnOk result (string_bytes text.new ≡ string_bytes text.old ++ minute_text lost bits) }
 {

@@ -6,7 +6,7 @@ ghost use Rattle.ttx_monitor.specs.Tallies.{capped, lost_of, bad_of, is_bad, is_
 use crate::breach::Breach;
 use crate::event::Event;
 
-/// How many slots of a feed have been heard, how many bytes and bits of them were wrong, how many packets were lost, at how many slots the
+/// How many slots of a feed have been read, how many bytes and bits of them were wrong, how many packets were lost, at how many slots the
 /// rule was broken or the feed had slipped, and the longest streak. Each count stops at 2^64 - 1.
 #[derive(Clone, Copy)]
 pub struct Tally {
@@ -49,7 +49,7 @@ fn bad_of(event: &Event) -> u16
     if is_bad(event) { 1 } else { 0 }
 }
 
-/// Whether a slot ends the hearing: it is bad, and not each such slot is reported.
+/// Whether a slot ends the reading: it is bad, and only the first such slot is reported.
 pub fn is_last(all: bool, event: &Event) -> bool
     ensures { result ≡ is_last all event.now }
 {

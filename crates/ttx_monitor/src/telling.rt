@@ -1,4 +1,4 @@
-//! Monitors a feed and tells the verdict.
+//! Monitors a feed, and returns the verdict with its text.
 
 ghost use Rattle.std.specs.Prelude.{◌∷◌, [], IfOk, IfSome, string_bytes};
 ghost use Rattle.ttx_cycle.specs.Counters.{inner_of, faults_of};
@@ -17,11 +17,11 @@ use std::io::Read;
 use ttx_cycle::Counted;
 use ttx_files::{FeedFault, Inputs, Told};
 
-/// Hears a feed slot by slot, to its end or to the first slot that breaks the error rule for a page of the service, and tells the verdict
+/// Reads a feed slot by slot, to its end or to the first slot that breaks the error rule for a page of the service, and returns the verdict
 /// with its text. A feed is what a receiver got: slots of 42 bytes from any slot of the cycle on, an empty line as 42 zero bytes. It begins
 /// with slot `named` of the cycle, or with the slot with which its first period fits best, and the lowest of several.
 ///
-/// Where the verdict is Yes, the certifier accepts the three inputs, and the feed reaches the deadline, each permitted receiver of this feed
+/// If the verdict is yes, the certifier accepts the three inputs, and the feed reaches the deadline, each permitted receiver of this feed
 /// shows each page. No slot behind the first period is kept, so memory does not grow with the feed. `Err` if a read fails or memory runs out.
 pub fn monitor_feed<R: Read>(
     alloc: Global,

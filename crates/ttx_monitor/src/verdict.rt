@@ -1,4 +1,4 @@
-//! What a monitor says of a feed.
+//! The verdict of a monitor on a feed.
 
 use crate::breach::Breach;
 use ttx_recognition::Unlike;

@@ -3,10 +3,11 @@
 --   Reading, reading_of     a text that was read, or why none was
 --   Made, made_of           what a press makes of a text
 --   mark_of                 the mark of a text in the log: a space and its digest in hexadecimal
---   lacking, news_made      what is answered where memory ran out, and to what was made of a text
---   Tries                   what is answered to a text that is new
---   IsUnreadNews, IsUnread  what is answered where no text was read; it is told once
---   IsRead, Finds, Looks    what is answered to a text; to what is read now; and at most once a second
+--   lacking, news_made      the answer if memory ran out, and to what was made of a text
+--   Tries                   the answer to a text that is new
+--   IsUnreadNews, IsUnread  the answer if no text was read; it is reported once
+--   IsKept                  a new text is kept, so that it is not tried again
+--   IsRead, Finds, Looks    the answer to a text; to what is read now; and at most once a second
 --   IsNew                   a newsroom while the edition of a first text is on the air
 use Rattle.std.specs.declared.alloc.Global.{Global}
 use Rattle.std.specs.Prelude.{◌≡◌, ◌≢◌, ◌⊎◌, ℕ, ◌+◌, ◌-◌, ◌^◌, ◌<◌, ◌≤◌, min, true, false, if◌then◌else◌, List, [], ◌∷◌, codes, string_bytes, Result, Ok, Err, Vec}
@@ -68,12 +69,15 @@ IsUnread fault old new news =
     ((old.unread ≡ true) × (new ≡ old) × (news ≡ Nothing))
     ⊎ ((old.unread ≡ false) × (new ≡ record old { unread = true }) × IsUnreadNews fault news)
 
--- the same text as before is not tried again
+-- the text is kept
+abbrev pub IsKept : {S P : Type 0} → List ℕ → TextNewsroom S P → TextNewsroom S P → Type 0
+IsKept text old new = (new.tried.items ≡ text) × (new ≡ record old { unread = false; tried = new.tried; press = new.press })
+
+-- The same text as before, by its bytes, is not tried again. Another one counts as tried, also if there was no memory for its edition or its mark.
 abbrev pub IsRead : {S P : Type 0} → (P → Edition → List ℕ → Made → P → Type 0) → Edition → List ℕ → TextNewsroom S P → TextNewsroom S P → News → Type 0
 IsRead makes on_air text old new news =
-    ((sha256 text ≡ old.tried) × (new ≡ record old { unread = false }) × (news ≡ Nothing))
-    ⊎ ((sha256 text ≢ old.tried) × (new ≡ record old { unread = false; tried = sha256 text; press = new.press })
-    × Tries makes old.press on_air text news new.press)
+    ((text ≡ old.tried.items) × (new ≡ record old { unread = false }) × (news ≡ Nothing))
+    ⊎ ((text ≢ old.tried.items) × IsKept text old new × Tries makes old.press on_air text news new.press)
 
 abbrev pub FindsBy : {S P : Type 0} → (P → Edition → List ℕ → Made → P → Type 0) → Edition → Reading → TextNewsroom S P → TextNewsroom S P → News → Type 0
 FindsBy makes on_air (Ok text) old new news = IsRead makes on_air text old new news
@@ -95,6 +99,6 @@ Looks reads makes on_air field old new news =
 pub record IsNew {S P : Type 0} (source : S) (press : P) (first : List ℕ) (newsroom : TextNewsroom S P) : Type 0 where
   pub own_source : newsroom.source ≡ source
   pub own_press : newsroom.press ≡ press
-  pub tried : newsroom.tried ≡ sha256 first
+  pub tried : newsroom.tried.items ≡ first
   pub unread : newsroom.unread ≡ false
   pub next : newsroom.next ≡ 0

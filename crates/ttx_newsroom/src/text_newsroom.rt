@@ -1,6 +1,6 @@
 //! A newsroom over the text of a service.
 
-ghost use Rattle.std.specs.Prelude.{◌≡◌, ◌⊎◌, ◌↔◌, [], IfOk, IsTrue, string_bytes};
+ghost use Rattle.std.specs.Prelude.{◌≡◌, ◌⊎◌, [], IfOk, string_bytes};
 ghost use Rattle.sha2.specs.Sha256.{sha256};
 ghost use Rattle.ttx_playout.specs.Takeovers.{edition_of};
 ghost use Rattle.ttx_air.specs.Newsrooms.{Refused, news_of};
@@ -18,13 +18,14 @@ use ttx_playout::Edition;
 // How many fields a second has.
 const SECOND: usize = 50;
 
-/// A newsroom that looks at the text of a service, at most once a second, and hands out the edition of each new text once.
+/// A newsroom that looks at the text of a service, at most once a second, and hands out the edition of each new text once. It keeps the
+/// text that it tried last; a text that is new counts as tried whatever becomes of it, also if memory ran out.
 #[derive(Drop)]
 pub struct TextNewsroom<S, P> {
     source: S,
     press: P,
-    // The SHA-256 of the text that was tried last.
-    tried: [u8; 32],
+    // The text that was tried last.
+    tried: Vec<u8>,
     // Whether the text could not be read the last time.
     unread: bool,
     // The field before which the text is not looked at.
@@ -33,13 +34,13 @@ pub struct TextNewsroom<S, P> {
 
 impl<S, P> TextNewsroom<S, P> {
     /// A newsroom over this source and this press, while the edition of the first text is on the air.
-    pub fn new(source: S, press: P, first: &[u8]) -> TextNewsroom<S, P>
-        ensures { rule.IsNew source press first.now result }
+    pub fn new(source: S, press: P, first: Vec<u8>) -> TextNewsroom<S, P>
+        ensures { rule.IsNew source press first.items result }
     {
         TextNewsroom {
             source,
             press,
-            tried: Sha256::digest(first),
+            tried: first,
             unread: false,
             next: 0,
         }
@@ -57,15 +58,7 @@ pub fn text_mark(alloc: Global, text: &[u8]) -> Result<String, AllocError>
     Ok(mark)
 }
 
-// Whether the text has this digest.
-fn has_digest(text: &[u8], digest: &[u8; 32]) -> bool
-    ensures { IsTrue result ↔ (sha256 text.now ≡ digest.now) }
-{
-    let own = Sha256::digest(text);
-    own.as_slice() == digest.as_slice()
-}
-
-// What is answered to what was made of a text with this mark.
+// The answer to what was made of a text with this mark.
 fn news_by(mark: String, made: Result<Edition, PressFault>) -> News
     ensures { news_of result ≡ news_made (string_bytes mark) (made_of made) }
 {
@@ -76,7 +69,7 @@ fn news_by(mark: String, made: Result<Edition, PressFault>) -> News
     }
 }
 
-// What is answered to a text that is new.
+// The answer to a text that is new.
 fn tried<P: Press>(alloc: Global, press: &mut P, on_air: &Edition, text: &[u8]) -> News
     ensures { Tries P.makes press.old (edition_of on_air.now) text.now (news_of result) press.new }
 {
@@ -100,7 +93,7 @@ fn unmarked(alloc: Global, words: &str) -> News
     }
 }
 
-// What is answered where no text was read.
+// The answer if no text was read.
 fn unread_news(alloc: Global, fault: TextFault) -> News
     ensures { IsUnreadNews fault (news_of result) }
 {
@@ -114,7 +107,7 @@ fn unread_news(alloc: Global, fault: TextFault) -> News
 }
 
 impl<S: TextSource, P: Press> TextNewsroom<S, P> {
-    // What is answered where no text was read; it is told once.
+    // The answer if no text was read. It is reported once.
     fn unread(&mut self, alloc: Global, fault: TextFault) -> News
         ensures { IsUnread fault self.old self.new (news_of result) }
     {
@@ -125,16 +118,17 @@ impl<S: TextSource, P: Press> TextNewsroom<S, P> {
         unread_news(alloc, fault)
     }
 
-    // What is answered to a text that was read.
-    fn read(&mut self, alloc: Global, on_air: &Edition, text: &[u8]) -> News
-        ensures { rule.IsRead P.makes (edition_of on_air.now) text.now self.old self.new (news_of result) }
+    // The answer to a text that was read.
+    fn read(&mut self, alloc: Global, on_air: &Edition, text: Vec<u8>) -> News
+        ensures { rule.IsRead P.makes (edition_of on_air.now) text.items self.old self.new (news_of result) }
     {
         self.unread = false;
-        if has_digest(text, &self.tried) {
+        if text.as_slice() == self.tried.as_slice() {
             return News::Nothing;
         }
-        self.tried = Sha256::digest(text);
-        tried(alloc, &mut self.press, on_air, text)
+        let news = tried(alloc, &mut self.press, on_air, text.as_slice());
+        self.tried = text;
+        news
     }
 
     // What the text is now.
@@ -142,7 +136,7 @@ impl<S: TextSource, P: Press> TextNewsroom<S, P> {
         ensures { Finds S.reads P.makes (edition_of on_air.now) self.old self.new (news_of result) }
     {
         match self.source.text(alloc) {
-            Ok(text) => self.read(alloc, on_air, text.as_slice()),
+            Ok(text) => self.read(alloc, on_air, text),
             Err(fault) => self.unread(alloc, fault),
         }
     }

@@ -12,12 +12,14 @@ use Rattle.ttx_render.specs.Laws.{ArePrinted}
 use Rattle.ttx_picture.specs.Ansi.{sgr, foreground, background, blink, change, changes, cells_ansi, row_ansi, rows_ansi}
 use Rattle.ttx_picture.specs.Laws.{FormsHaveNoControls}
 use Rattle.ttx_picture.specs.Links.{link_name, link_names}
-use Rattle.ttx_picture.specs.Shown.{char_of, are_blank}
+use Rattle.ttx_picture.specs.Shown.{char_of, char_with, are_blank}
+use Rattle.ttx_picture.specs.declared.shown.Mosaics.{Mosaics}
+use Rattle.ttx_picture.specs.declared.shown.Mosaics.TheVariants.{Sextants, Quadrants}
 use Rattle.ttx_picture.specs.Svg.{svg_of}
 use Rattle.ttx_picture.specs.Html.{html_of}
 use Rattle.ttx_picture.specs.Tags.{is_ruled, InText, Nowhere, Reading, reading_at, read, IsNested}
 use Rattle.ttx_picture.specs.Text.{cells_text, rows_text}
-use Rattle.ttx_picture.proofs.Quiet.{quiet, IsQuiet, calm, both_true, decimal_quiet, id_quiet, utf8_all, char_low}
+use Rattle.ttx_picture.proofs.Quiet.{quiet, IsQuiet, calm, both_true, decimal_quiet, id_quiet, utf8_all, char_low, char_with_low}
 use Rattle.ttx_picture.proofs.Nested.{Printed, tags_are_nested_lem}
 
 ---- a nested text has none
@@ -117,7 +119,7 @@ module _ (p : ℕ → Bool) (admits : Admits p) where
     rows_all [] h = all_of p refl
     rows_all (cells ∷ rows) h = with_all p (with_all p {b = 10 ∷ []} (cells_all cells h.0) (from_quiet (calm refl))) (rows_all rows h.1)
 
-    module _ (code : p 27 ≡ true) where
+    module _ (code : p 27 ≡ true) (mosaics : Mosaics) where
       sgr_all : (n : ℕ) → IsAll p (sgr n)
       sgr_all n = with_all p {b = 109 ∷ []} (with_all p {a = 27 ∷ 91 ∷ []} start (from_quiet (decimal_quiet n))) (from_quiet (calm refl))
         where
@@ -132,17 +134,17 @@ module _ (p : ℕ → Bool) (admits : Admits p) where
           (with_all p (change_all (foreground before) (foreground cell)) (change_all (background before) (background cell)))
           (change_all (blink before) (blink cell))
 
-      ansi_all : (before : Cell) (cells : List Cell) → Printed cells → IsAll p (cells_ansi reveal before cells)
+      ansi_all : (before : Cell) (cells : List Cell) → Printed cells → IsAll p (cells_ansi mosaics reveal before cells)
       ansi_all before [] h = all_of p refl
       ansi_all before (cell ∷ cells) h = with_all p
-          (with_all p (changes_all before cell) (utf8 (char_of reveal cell) (char_low reveal cell h.0))) (ansi_all cell cells h.1)
+          (with_all p (changes_all before cell) (utf8 (char_with mosaics reveal cell) (char_with_low mosaics reveal cell h.0))) (ansi_all cell cells h.1)
 
-      row_all : (cells : List Cell) → Printed cells → IsAll p (row_ansi reveal cells)
+      row_all : (cells : List Cell) → Printed cells → IsAll p (row_ansi mosaics reveal cells)
       row_all cells h = with_all p {b = 10 ∷ []}
           (with_all p (with_all p (with_all p (sgr_all 37) (sgr_all 40)) (ansi_all space_cell cells h)) (sgr_all 0))
           (from_quiet (calm refl))
 
-      rows_ansi_all : (rows : List (List Cell)) → ArePrinted rows → IsAll p (rows_ansi reveal rows)
+      rows_ansi_all : (rows : List (List Cell)) → ArePrinted rows → IsAll p (rows_ansi mosaics reveal rows)
       rows_ansi_all [] h = all_of p refl
       rows_ansi_all (cells ∷ rows) h = with_all p (row_all cells h.0) (rows_ansi_all rows h.1)
 
@@ -155,7 +157,8 @@ calm_codes = record { high = λ b l. grind (arith, nat_tests); feed = refl }
 pub forms_have_no_controls_lem : FormsHaveNoControls
 forms_have_no_controls_lem reveal view h = (
   (ending_all _ calm_text view.links (rows_all _ calm_text reveal view.cells h)).is,
-  (ending_all _ calm_codes view.links (rows_ansi_all _ calm_codes reveal refl view.cells h)).is,
+  (ending_all _ calm_codes view.links (rows_ansi_all _ calm_codes reveal refl Sextants view.cells h)).is,
+  (ending_all _ calm_codes view.links (rows_ansi_all _ calm_codes reveal refl Quadrants view.cells h)).is,
   nested_is_calm (svg_of reveal view) (tags_are_nested_lem reveal view h).0,
   nested_is_calm (html_of reveal view) (tags_are_nested_lem reveal view h).1,
 )

@@ -19,7 +19,9 @@ use Rattle.ttx_picture.specs.Escapes.{escaped}
 use Rattle.ttx_picture.specs.Laws.{is_markup, is_reserved}
 use Rattle.ttx_digits.specs.Digits.{hex_digit, hex_byte}
 use Rattle.ttx_picture.specs.Links.{sub_text, page_name}
-use Rattle.ttx_picture.specs.Shown.{shown_glyph, over, sextant, braille, half, glyph_char, char_of}
+use Rattle.ttx_picture.specs.Shown.{shown_glyph, over, sextant, braille, quadrant, quarters, contiguous, half, glyph_char, char_with, char_of}
+use Rattle.ttx_picture.specs.declared.shown.Mosaics.{Mosaics}
+use Rattle.ttx_picture.specs.declared.shown.Mosaics.TheVariants.{Sextants, Quadrants}
 use Rattle.ttx_picture.specs.Svg.{is_drawn, code_of, letter_of}
 use Rattle.ttx_picture.specs.Tags.{is_ruled}
 use Rattle.ttx_picture.proofs.Escaping.{by_if, cases}
@@ -150,16 +152,35 @@ braille_low : (blocks : ℕ) → AtLeast32 (braille blocks)
 unfolding braille
 braille_low blocks = by_if AtLeast32 (blocks == 0) _ _ (λ _. refl) (λ _. le-ltb _ 32 (omega arith))
 
-glyph_low : (part : Part) (g : Glyph) → IsPrinted g → AtLeast32 (glyph_char part g)
-glyph_low Single (Char code) h = printed_low code h
-glyph_low Upper (Char code) h = printed_low code h
-glyph_low Lower (Char code) h = refl
-glyph_low part (Mosaic blocks separated) h =
-    by_if AtLeast32 separated _ _ (λ _. braille_low (half part blocks)) (λ _. sextant_low (half part blocks))
+either_low : (t : Bool) (x y : ℕ) → AtLeast32 x → AtLeast32 y → AtLeast32 (if t then x else y)
+either_low true x y e f = e
+either_low false x y e f = f
+
+quadrant_low : (lit : ℕ) → AtLeast32 (quadrant lit)
+unfolding quadrant
+quadrant_low lit =
+    either_low (lit == 0) _ _ refl (either_low (lit == 1) _ _ refl (either_low (lit == 2) _ _ refl (either_low (lit == 3) _ _ refl
+    (either_low (lit == 4) _ _ refl (either_low (lit == 5) _ _ refl (either_low (lit == 6) _ _ refl (either_low (lit == 7) _ _ refl
+    (either_low (lit == 8) _ _ refl (either_low (lit == 9) _ _ refl (either_low (lit == 10) _ _ refl (either_low (lit == 11) _ _ refl
+    (either_low (lit == 12) _ _ refl (either_low (lit == 13) _ _ refl (either_low (lit == 14) _ _ refl refl))))))))))))))
+
+contiguous_low : (mosaics : Mosaics) (blocks : ℕ) → AtLeast32 (contiguous mosaics blocks)
+contiguous_low Sextants blocks = sextant_low blocks
+contiguous_low Quadrants blocks = quadrant_low (quarters blocks)
+
+glyph_low : (mosaics : Mosaics) (part : Part) (g : Glyph) → IsPrinted g → AtLeast32 (glyph_char mosaics part g)
+glyph_low mosaics Single (Char code) h = printed_low code h
+glyph_low mosaics Upper (Char code) h = printed_low code h
+glyph_low mosaics Lower (Char code) h = refl
+glyph_low mosaics part (Mosaic blocks separated) h =
+    by_if AtLeast32 separated _ _ (λ _. braille_low (half part blocks)) (λ _. contiguous_low mosaics (half part blocks))
+
+pub char_with_low : (mosaics : Mosaics) (reveal : Bool) (cell : Cell) → IsPrinted cell.glyph → AtLeast32 (char_with mosaics reveal cell)
+unfolding char_with
+char_with_low mosaics reveal cell h = glyph_low mosaics cell.part (shown_glyph reveal cell) (shown_printed reveal cell h)
 
 pub char_low : (reveal : Bool) (cell : Cell) → IsPrinted cell.glyph → AtLeast32 (char_of reveal cell)
-unfolding char_of
-char_low reveal cell h = glyph_low cell.part (shown_glyph reveal cell) (shown_printed reveal cell h)
+char_low reveal cell h = char_with_low Sextants reveal cell h
 
 code_low : (g : Glyph) → IsPrinted g → AtLeast32 (code_of g)
 code_low (Char code) h = printed_low code h

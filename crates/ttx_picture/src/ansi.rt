@@ -2,10 +2,10 @@
 
 ghost use Rattle.std.specs.Prelude.{◌≡◌, ◌<◌, ◌++◌, OnOk, string_bytes};
 ghost use Rattle.ttx_render.specs.Cells.{space_cell};
-ghost use Rattle.ttx_picture.specs.Ansi.{sgr, foreground, background, blink, change, changes, cells_ansi, row_ansi, rows_ansi, ansi_of};
+ghost use Rattle.ttx_picture.specs.Ansi.{sgr, foreground, background, blink, change, changes, cells_ansi, row_ansi, rows_ansi, terminal_of};
 
 use crate::links::push_links;
-use crate::shown::{char_of, colour_number};
+use crate::shown::{Mosaics, char_with, colour_number};
 use std::alloc::AllocError;
 use ttx_render::{Cell, Colour, Glyph, Part, View};
 
@@ -70,42 +70,55 @@ fn space_cell() -> Cell
     }
 }
 
-fn push_cells(text: &mut String, reveal: bool, cells: &[Cell]) -> Result<(), AllocError>
-    ensures { OnOk result (string_bytes text.new ≡ string_bytes text.old ++ cells_ansi reveal space_cell cells.now) }
+// How a View is written for a terminal.
+#[derive(Clone, Copy)]
+struct Style {
+    mosaics: Mosaics,
+    reveal: bool,
+}
+
+fn push_cells(text: &mut String, style: Style, cells: &[Cell]) -> Result<(), AllocError>
+    ensures { OnOk result (string_bytes text.new ≡ string_bytes text.old ++ cells_ansi style.mosaics style.reveal space_cell cells.now) }
 {
     let mut before = space_cell();
     for cell in cells {
         push_changes(text, &before, cell)?;
-        text.push(char_of(reveal, cell))?;
+        text.push(char_with(style.mosaics, style.reveal, cell))?;
         before = *cell;
     }
     Ok(())
 }
 
-fn push_row(text: &mut String, reveal: bool, cells: &[Cell]) -> Result<(), AllocError>
-    ensures { OnOk result (string_bytes text.new ≡ string_bytes text.old ++ row_ansi reveal cells.now) }
+fn push_row(text: &mut String, style: Style, cells: &[Cell]) -> Result<(), AllocError>
+    ensures { OnOk result (string_bytes text.new ≡ string_bytes text.old ++ row_ansi style.mosaics style.reveal cells.now) }
 {
     push_sgr(text, 37)?;
     push_sgr(text, 40)?;
-    push_cells(text, reveal, cells)?;
+    push_cells(text, style, cells)?;
     push_sgr(text, 0)?;
     text.push('\n')
 }
 
-fn push_rows(text: &mut String, reveal: bool, rows: &[[Cell; 40]]) -> Result<(), AllocError>
-    ensures { OnOk result (string_bytes text.new ≡ string_bytes text.old ++ rows_ansi reveal rows.now) }
+fn push_rows(text: &mut String, style: Style, rows: &[[Cell; 40]]) -> Result<(), AllocError>
+    ensures { OnOk result (string_bytes text.new ≡ string_bytes text.old ++ rows_ansi style.mosaics style.reveal rows.now) }
 {
     for cells in rows {
-        push_row(text, reveal, cells)?;
+        push_row(text, style, cells)?;
     }
     Ok(())
 }
 
-/// Appends a View as lines of characters with terminal codes. Concealed characters are shown only if `reveal` is true.
-pub(crate) fn push_ansi(text: &mut String, reveal: bool, view: &View) -> Result<(), AllocError>
-    ensures { OnOk result (string_bytes text.new ≡ string_bytes text.old ++ ansi_of reveal view.now) }
+/// Appends a View as lines of characters with terminal codes, with these characters for mosaics. Concealed characters are shown only if
+/// `reveal` is true.
+pub(crate) fn push_terminal(
+    text: &mut String,
+    mosaics: Mosaics,
+    reveal: bool,
+    view: &View,
+) -> Result<(), AllocError>
+    ensures { OnOk result (string_bytes text.new ≡ string_bytes text.old ++ terminal_of mosaics reveal view.now) }
 {
-    push_rows(text, reveal, &view.cells)?;
+    push_rows(text, Style { mosaics, reveal }, &view.cells)?;
     text.push_str("links")?;
     push_links(text, &view.links)?;
     text.push('\n')

@@ -3,8 +3,9 @@
 ghost use Rattle.std.specs.Prelude.{◌≡◌, ◌++◌, OnOk, string_bytes};
 ghost use Rattle.ttx_picture.specs.Forms.{picture_of};
 
-use crate::ansi::push_ansi;
+use crate::ansi::push_terminal;
 use crate::html::push_html;
+use crate::shown::Mosaics;
 use crate::svg::push_svg;
 use crate::text::push_text;
 use std::alloc::AllocError;
@@ -17,6 +18,8 @@ pub enum Form {
     Text,
     /// Lines of characters with terminal codes for colours and flashing.
     Ansi,
+    /// The same with quadrants and half blocks in place of sextants.
+    Blocks,
     /// An SVG picture.
     Svg,
     /// An HTML page with the picture, its links and its text.
@@ -35,7 +38,8 @@ pub fn push_picture(
 {
     match form {
         Form::Text => push_text(text, reveal, view),
-        Form::Ansi => push_ansi(text, reveal, view),
+        Form::Ansi => push_terminal(text, Mosaics::Sextants, reveal, view),
+        Form::Blocks => push_terminal(text, Mosaics::Quadrants, reveal, view),
         Form::Svg => push_svg(text, reveal, view),
         Form::Html => push_html(text, reveal, view),
     }

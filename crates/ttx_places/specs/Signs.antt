@@ -1,4 +1,4 @@
--- The place of a character of a text in a TOML text: where what stands for it begins, behind the quotation mark.
+-- The place of a character of a text in a TOML text: where the bytes that stand for it begin, after the quotation mark.
 --
 --   escape_size, utf8_size, sign_size   the bytes of an escape, of a character, and of what stands for the next character
 --   after_signs             the text after a number of characters

@@ -32,7 +32,7 @@ fn utf8_size(byte: u8) -> usize
     }
 }
 
-// The bytes of what stands for the next character.
+// The bytes that stand for the next character.
 fn sign_size(basic: bool, text: &[u8]) -> usize
     ensures { result ≡ rule.sign_size basic text.now }
 {
@@ -43,7 +43,7 @@ fn sign_size(basic: bool, text: &[u8]) -> usize
     }
 }
 
-// The bytes after so many.
+// The text after so many bytes.
 fn skipped(text: &[u8], size: usize) -> &[u8]
     ensures rest { result.now ≡ drop size text.now }
     ensures within { length result.now ≤ length text.now }
@@ -74,7 +74,7 @@ fn is_long(text: &[u8]) -> bool
 }
 
 /// The place of the character with this index, from 0, of the text whose first quotation mark is the byte at `place`: the place of the
-/// first byte of what stands for it. Of a text in three quotation marks `place`.
+/// first byte that stands for it. For a text in three quotation marks it is `place`.
 #[tactic(auto, unfolding(crate::specs::Signs::character_place))]
 pub fn character_place(bytes: &[u8], place: usize, index: usize) -> usize
     ensures { result ≡ rule.character_place bytes.now place index }

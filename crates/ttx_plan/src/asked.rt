@@ -1,11 +1,11 @@
-//! For which receivers a cycle is planned.
+//! The receivers that a cycle is planned for.
 
 use ttx_page::Class;
 
 /// The receivers that a cycle is planned for.
 #[derive(Clone, Copy)]
 pub struct Receivers {
-    /// Receivers of this class: what surely clears a page on them.
+    /// Receivers of this class.
     pub class: Class,
     /// Also receivers that show a page late, when the next header of its magazine has another page number.
     pub late: bool,

@@ -17,7 +17,7 @@ use std::alloc::{AllocError, Global};
 use ttx_cycle::Cycle;
 use ttx_source::Service;
 
-// The blocks in this order. Between two headers of a magazine with the same page number stands a time-filling header, where pages may be
+// The blocks in this order. Between two headers of a magazine with the same page number comes a time-filling header, if pages may be
 // shown late.
 fn sent_in_order<'a>(
     alloc: Global,

@@ -89,8 +89,8 @@ fn no_places() -> [usize; 2000]
 
 /// The place of each page of the service among the eight rounds, by its index, for receivers of the class. These places make the rounds
 /// similar in length, and keep the pages of one page number apart. Pages take their places one after another, those that are sent most
-/// often first, and equal ones in authored order. Each takes the first place with the least burden: first the pages of its number that
-/// stand in the rounds of the place already, then how many rounds the place comes after the turn of the page, then the packets of these
+/// often first, and equal ones in authored order. Each takes the first place with the least burden, which counts first the pages of its number that
+/// are in the rounds of the place already, then how many rounds the place comes after the turn of the page, then the packets of these
 /// rounds. Pages of a number that are sent equally often have their turns at equal distances, in the order of their subcodes. The packets
 /// of a page are its page header, the rows that are sent and X/27/0. Allocates no memory.
 pub fn spread_places(service: &Service, class: Class) -> [usize; 2000]

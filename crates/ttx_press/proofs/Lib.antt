@@ -1,3 +1,5 @@
 mod SaidWords
 mod ShareBounds
 mod SharedHouses
+mod WholeAirings
+mod ComposedTexts

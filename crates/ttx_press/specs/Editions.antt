@@ -1,10 +1,12 @@
 -- The edition of a text (profile).
 --
---   IsScript                a service and its promises, as a text says them
+--   IsScriptBy, IsScript    a service and its promises, as a text says them: a service text itself, an author's text by the service text that it is
+--                           composed into
 --   IsPlain, IsPlanBy, IsPlanFor    the plan of a service; also a spread plan, of the service sent as often as its promises need; that of a house
 --   IsPrinted               the edition of a text
 --   IsSpoilt                why a text has none
 use Rattle.std.specs.Prelude.{◌≡◌, ◌⊎◌, ℕ, Bool, true, false, List, Ok}
+use Rattle.ttx_author_files.specs.AuthorTexts.{is_author_text, IsTextBy}
 use Rattle.ttx_certificate.specs.Entries.{CertificateFields, certificate_at}
 use Rattle.ttx_certify.specs.declared.verdict.Verdict.TheVariants.{Yes}
 use Rattle.ttx_deadline.specs.Deadlines.{IsFoundWith}
@@ -18,9 +20,15 @@ use Rattle.ttx_press.specs.Houses.{asked_of, viewers_of}
 use Rattle.ttx_press.specs.Refusals.{IsCheckRefusal, IsNoPlan, IsTooSlow}
 use Rattle.ttx_press.specs.declared.house.House.{House}
 
-pub record IsScript (text : List ℕ) (service : ServiceFields) (promises : List PromiseFields) : Type 0 where
-  pub service_is : read_bytes text ≡ Ok service
-  pub promises_are : read_promises text ≡ Ok promises
+-- the service text that the text stands for, by whether it is an author's text, says them
+pub record IsScriptBy (is_author : Bool) (text : List ℕ) (service : ServiceFields) (promises : List PromiseFields) : Type 0 where
+  pub said : List ℕ
+  pub stands : IsTextBy is_author text said
+  pub service_is : read_bytes said ≡ Ok service
+  pub promises_are : read_promises said ≡ Ok promises
+
+abbrev pub IsScript : List ℕ → ServiceFields → List PromiseFields → Type 0
+IsScript text service promises = IsScriptBy (is_author_text text) text service promises
 
 -- the cycle of `plan`
 abbrev pub IsPlain : Viewers → ServiceFields → ServiceFields → List (List ℕ) → Type 0
@@ -61,6 +69,6 @@ pub record IsTooSlowText (h : House) (text words : List ℕ) : Type 0 where
   pub plan : IsPlanFor h service promises sent cycle
   pub slow : IsTooSlow h cycle sent words
 
--- `check` refuses the text; its service has no plan; or a viewer waits longer than the deadline for some page
+-- the text has a mistake; its service has no plan; or a viewer waits longer than the deadline for some page
 abbrev pub IsSpoilt : House → List ℕ → List ℕ → Type 0
 IsSpoilt h text words = IsCheckRefusal text words ⊎ (IsUnplanned h text words ⊎ IsTooSlowText h text words)

@@ -1,7 +1,9 @@
 pub mod Houses
+pub mod AuthorRefusals
 pub mod Editions
 pub mod Refusals
 pub mod Turns
 pub mod Presses
 pub mod Shares
 pub mod Openings
+pub mod Whole

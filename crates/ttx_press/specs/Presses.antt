@@ -1,18 +1,50 @@
 -- What a house makes of texts.
 --
---   Prints                  an edition, or why there is none; memory may run out
+--   Leaves                  what an edition leaves open at a change; Yes if nothing
+--   IsAmid                  why the edition of a text may not follow: its begin would stand amid a page
+--   Presses                 an edition, or why there is none; memory may run out
+--   prints, text_gives      the edition that a house makes of a text; the answers of a newsroom over a text
 --   IsFirst                 the edition of a first text, with the mark of the text
-use Rattle.std.specs.Prelude.{◌≡◌, ℕ, List}
+use Rattle.std.specs.Prelude.{◌≡◌, ◌⊎◌, ℕ, List, [], ◌∷◌, ◌++◌}
 use Rattle.sha2.specs.Sha256.{sha256}
-use Rattle.ttx_air.specs.Newsrooms.{Candidate}
-use Rattle.ttx_newsroom.specs.TextNewsrooms.{Made, Printed, Spoilt, Short, mark_of}
+use Rattle.ttx_air.specs.Newsrooms.{Candidate, News}
+use Rattle.ttx_air.specs.declared.airtime.Receivers.{Receivers}
+use Rattle.ttx_air.specs.declared.airtime.Receivers.TheVariants.{AtOnce, Late}
+use Rattle.ttx_change.specs.LateSplices.{TellsOpen}
+use Rattle.ttx_change.specs.LateSpliceLines.{late_splice_line}
+use Rattle.ttx_change.specs.WholeChanges.{IsNotOpen}
+use Rattle.ttx_change.specs.declared.verdict.LateSplice.{LateSplice}
+use Rattle.ttx_change.specs.declared.verdict.LateSplice.TheVariants.{Yes}
+use Rattle.ttx_newsroom.specs.TextNewsrooms.{Reading, Made, Printed, Spoilt, Short, mark_of, Looks}
+use Rattle.ttx_newsroom.specs.declared.text_newsroom.TextNewsroom.{TextNewsroom}
+use Rattle.ttx_playout.specs.Schedules.{Edition, change}
 use Rattle.ttx_press.specs.Editions.{IsPrinted, IsSpoilt}
 use Rattle.ttx_press.specs.declared.house.House.{House}
 
-abbrev pub Prints : House → List ℕ → Made → Type 0
-Prints h text (Printed edition) = IsPrinted h text edition
-Prints h text (Spoilt words) = IsSpoilt h text words
-Prints h text Short = Unit {0}
+-- receivers that show rows as they come have nothing open
+abbrev pub Leaves : Receivers → Edition → Edition → LateSplice → Type 0
+Leaves AtOnce old new what = what ≡ Yes
+Leaves (Late gap) old new what = TellsOpen (change old new) what
+
+-- the edition on the air would leave something of a page open; the words are those of `splice --late`
+pub record IsAmid (h : House) (on_air : Edition) (text words : List ℕ) : Type 0 where
+  pub next : Edition
+  pub printed : IsPrinted h text next
+  pub what : LateSplice
+  pub leaves : Leaves h.receivers on_air next what
+  pub is_open : IsNotOpen what → ⊥
+  pub line : late_splice_line what ≡ words ++ 10 ∷ []
+
+abbrev pub Presses : House → Edition → List ℕ → Made → Type 0
+Presses h on_air text (Printed next) = IsPrinted h text next × Leaves h.receivers on_air next Yes
+Presses h on_air text (Spoilt words) = IsSpoilt h text words ⊎ IsAmid h on_air text words
+Presses h on_air text Short = Unit {0}
+
+abbrev pub prints : House → Edition → List ℕ → Made → House → Type 0
+prints old on_air text made new = (new ≡ old) × Presses old on_air text made
+
+abbrev pub text_gives : {S : Type 0} → (S → Reading → S → Type 0) → TextNewsroom S House → Edition → ℕ → News → TextNewsroom S House → Type 0
+text_gives reads old on_air field news new = Looks reads prints on_air field old new news
 
 abbrev pub IsFirst : House → List ℕ → Candidate → Type 0
 IsFirst h text first = IsPrinted h text first.edition × (first.mark ≡ mark_of (sha256 text))

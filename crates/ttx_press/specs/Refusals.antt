@@ -1,15 +1,16 @@
 -- Refusals in words (profile).
 --
---   Says                    a fact about the words of a refusal; want of memory has none
+--   Says                    a fact about the words of a refusal; lack of memory has none
 --   numbers_words, page_words, late_part, late_words    the pages that come too late: `late 101/0000 131 fields of 128, 102/0000 ..`
 --   slow_page, slow_pages   the pages for which viewers wait longer than a deadline
---   IsCheckRefusal          the words of the line with which `check` refuses a text
+--   IsCheckRefusalBy, IsCheckRefusal    the words of the line with which `check` refuses a service text; those about an author's text that has a mistake
 --   IsNoPlain, IsNoPlanBy, IsNoPlan     why a service has no plan
 --   IsSlowness, IsTooSlow   no certificate with the deadline is accepted, and the pages that are too slow
 use Rattle.std.specs.Prelude.{◌≡◌, ◌⊎◌, ℕ, ◌+◌, ◌<◌, ◌==◌, nat_lt, if◌then◌else◌, Bool, true, false, List, [], ◌∷◌, ◌++◌, codes, string_bytes}
 use Rattle.std.specs.Fmt.{decimal}
 use Rattle.ttx_header.specs.Ids.{Id}
 use Rattle.ttx_digits.specs.PageIds.{id_text}
+use Rattle.ttx_author_files.specs.AuthorTexts.{is_author_text}
 use Rattle.ttx_certificate.specs.Entries.{CertificateFields}
 use Rattle.ttx_certify.specs.declared.verdict.Verdict.TheVariants.{No}
 use Rattle.ttx_check.specs.Reports.{IsServiceReport}
@@ -30,6 +31,7 @@ use Rattle.ttx_witness.specs.declared.waiting.wait.PageWait.{PageWait}
 use Rattle.ttx_witness.specs.declared.waiting.wait.Wait.{Wait}
 use Rattle.ttx_witness.specs.declared.waiting.wait.Wait.TheVariants.{Fields}
 use Rattle.ttx_witness.specs.waiting.PageWaits.{AreWaits}
+use Rattle.ttx_press.specs.AuthorRefusals.{IsAuthorRefusal}
 use Rattle.ttx_press.specs.Houses.{asked_of, viewers_of}
 use Rattle.ttx_press.specs.declared.house.House.{House}
 
@@ -62,8 +64,13 @@ abbrev pub slow_pages : ℕ → List PageWait → List LateFields
 slow_pages deadline [] = []
 slow_pages deadline (told ∷ rest) = slow_page deadline told.page told.wait ++ slow_pages deadline rest
 
+-- by whether the text is an author's text
+abbrev pub IsCheckRefusalBy : Bool → List ℕ → List ℕ → Type 0
+IsCheckRefusalBy true text words = IsAuthorRefusal text words
+IsCheckRefusalBy false text words = IsServiceReport text (words ++ 10 ∷ []) 2
+
 abbrev pub IsCheckRefusal : List ℕ → List ℕ → Type 0
-IsCheckRefusal text words = IsServiceReport text (words ++ 10 ∷ []) 2
+IsCheckRefusal text words = IsCheckRefusalBy (is_author_text text) text words
 
 -- as `plan` says it
 abbrev pub IsNoPlain : Viewers → ServiceFields → List ℕ → Type 0

@@ -8,7 +8,7 @@
 --   IsHouse                 the house of an air, with so many fields for the gap
 --   Needs                   the least deadline and the gap that an edition needs
 --   IsMore, IsSharing       an edition needs more than there is; the house of one that does not
---   IsShared, IsUnshared    the same of an edition
+--   IsShared, IsUnshared    the same for an edition
 use Rattle.std.specs.Prelude.{◌≡◌, ℕ, ◌+◌, ◌-◌, ◌*◌, ◌/◌, ◌<◌, ◌≤◌, Bool, true, false, List, Option, Some, None}
 use Rattle.ttx_page.specs.Pages.{Page}
 use Rattle.ttx_page.specs.declared.class.Class.TheVariants.{Any}

@@ -1,10 +1,12 @@
 //! Editions of service texts: each text is read, planned and certified with the same numbers, or refused in one line.
 #![tactic(auto)]
 
+mod author_refusals;
 mod certifying;
 mod demand;
 mod house;
 mod late_words;
+pub mod laws;
 mod opening;
 mod planning;
 mod press;

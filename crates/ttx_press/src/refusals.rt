@@ -1,7 +1,7 @@
 //! Refusals in words.
 
-ghost use Rattle.std.specs.Prelude.{◌≡◌, ◌++◌, ◌∷◌, [], IfSome, string_bytes};
-ghost use Rattle.ttx_press.specs.Refusals.{Says, IsCheckRefusal};
+ghost use Rattle.std.specs.Prelude.{◌≡◌, ◌++◌, ◌∷◌, [], false, IfSome, string_bytes};
+ghost use Rattle.ttx_press.specs.Refusals.{Says, IsCheckRefusalBy};
 
 use std::alloc::Global;
 use ttx_check::report;
@@ -28,8 +28,8 @@ fn without_end(line: String) -> Option<String>
     }
 }
 
-// A refusal with the words of a line.
-fn refused_line(line: String) -> PressFault
+/// A refusal with the words of a line.
+pub(crate) fn refused_line(line: String) -> PressFault
     ensures { Says (λ words. string_bytes line ≡ words ++ 10 ∷ []) result }
 {
     match without_end(line) {
@@ -38,9 +38,9 @@ fn refused_line(line: String) -> PressFault
     }
 }
 
-/// The refusal of a text that `check` refuses, or that is not read for want of memory.
+/// The refusal of a service text that `check` refuses, or that cannot be read for lack of memory.
 pub fn refused_text(alloc: Global, text: &[u8]) -> PressFault
-    ensures { Says (IsCheckRefusal text.now) result }
+    ensures { Says (IsCheckRefusalBy false text.now) result }
 {
     match report(alloc, text) {
         Ok(checked) if checked.status == 2 => refused_line(checked.text),

@@ -22,7 +22,7 @@ fn slow_page(told: PageWait, deadline: u32) -> Option<LatePage>
     }
 }
 
-// Puts a page behind the others, if there is one.
+// Appends a page, if there is one.
 fn push_slow(slow: &mut Vec<LatePage>, page: Option<LatePage>) -> Result<(), AllocError>
     ensures { OnOk result (map late_view slow.new.items ≡ map late_view slow.old.items ++ late_list page) }
 {

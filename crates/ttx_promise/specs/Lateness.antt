@@ -3,7 +3,7 @@
 --   often_at                how often the page at an index is sent; 8 times where there is none
 --   may_rise                the page of a promise may be sent more often: it has no key `often`, and is sent less than 8 times
 --   fields_late             by how many fields the page of a promise comes too late
---   weight, weight_at       the same of a page that may be sent more often, and 0 of each other; of the promise with a number
+--   weight, weight_at       the same for a page that may be sent more often, and 0 of each other; of the promise with a number
 --   page_at                 the page of the promise with a number
 --   NoneMayRise, IsLatest   no page that comes too late may be sent more often; the first of the latest of those that may
 --   late_of                 the pages that come too late, with their deadlines and promises

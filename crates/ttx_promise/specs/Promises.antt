@@ -120,7 +120,7 @@ Answers v promises old new (Err (Late pages)) = HasPlan v.receivers.late v.recei
     × ((cycle : List (List ℕ)) × IsMissed v promises new cycle (map late_view pages.items))
 Answers v promises old new (Err NoMemory) = ⊤
 
--- the same of a service that has a plan
+-- the same for a service that has a plan
 abbrev pub Ends : Viewers → List PromiseFields → ServiceFields → ServiceFields → Result Cycle Missed → Type 0
 Ends v promises old new (Ok cycle) = IsRaised promises old new × KeepsPromises v promises new (slots_of cycle)
 Ends v promises old new (Err (missed.Late pages)) =
@@ -142,7 +142,7 @@ RaisesLatest late class deadlines promises old new None = (new ≡ old) × IsAtI
 RaisesLatest late class deadlines promises old new (Some cycle) =
     IsRaised promises old new × (room new.pages < room old.pages) × IsSpreadFor late class new (slots_of cycle)
 
--- what is said of a plan that isn't improved
+-- the result for a plan that is not improved
 abbrev pub IsJudged : List Page → List ℕ → List PromiseFields → Improved → Type 0
 IsJudged pages deadlines promises improved.Kept = late_of pages deadlines promises ≡ []
 IsJudged pages deadlines promises (improved.Raised next) = ⊥

@@ -37,7 +37,7 @@ fn is_other(pages: &[Page], id: PageId) -> bool
     id.page() != 0xff && !has_page(pages, id)
 }
 
-// Puts the page of a header behind the others, if it is none of these pages.
+// Appends the page of a header, if it is none of these pages.
 fn push_other(others: &mut Vec<PageId>, pages: &[Page], slot: &[u8; 42]) -> Result<(), AllocError>
     ensures { OnOk result (others.new.items ≡ others.old.items ++ rule.other_in (ids_of pages.now) slot.now) }
 {

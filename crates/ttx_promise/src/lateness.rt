@@ -10,7 +10,7 @@ use crate::faults::LatePage;
 use std::alloc::{AllocError, Global};
 use ttx_source::{Promise, Service};
 
-// How often the page at an index is sent; 8 times where there is none.
+// How often the page at an index is sent; 8 times if there is none.
 fn often_at(service: &Service, index: usize) -> u8
     ensures { result ≡ rule.often_at service.now.pages index }
 {
@@ -21,7 +21,7 @@ fn often_at(service: &Service, index: usize) -> u8
     }
 }
 
-// The deadline of the page at an index; 0 where there is none.
+// The deadline of the page at an index; 0 if there is none.
 fn deadline_at(deadlines: &[u32], index: usize) -> u32
     ensures { result ≡ slice_index_or deadlines.now index 0 }
 {
@@ -31,7 +31,7 @@ fn deadline_at(deadlines: &[u32], index: usize) -> u32
     }
 }
 
-// By how many fields the page of a promise comes too late that may be sent more often; 0 of each other page.
+// By how many fields the page of a promise comes too late, if it may be sent more often; otherwise 0.
 fn weight(service: &Service, deadlines: &[u32], promise: Promise) -> u32
     ensures { result ≡ rule.weight service.now.pages deadlines.now (promise_view promise) }
 {
@@ -41,7 +41,7 @@ fn weight(service: &Service, deadlines: &[u32], promise: Promise) -> u32
     deadline_at(deadlines, promise.page).saturating_sub(promise.fields)
 }
 
-// The same of the promise with this number; 0 where there is none.
+// The same for the promise with this number; 0 if there is none.
 fn weight_at(service: &Service, deadlines: &[u32], promises: &[Promise], number: usize) -> u32
     ensures { result ≡ rule.weight_at service.now.pages deadlines.now (map promise_view promises.now) number }
 {
@@ -97,7 +97,7 @@ fn late_page(service: &Service, deadlines: &[u32], promise: Promise) -> Option<L
     }
 }
 
-// Puts a page behind the others, where there is one.
+// Appends a page, if there is one.
 fn push_late(late: &mut Vec<LatePage>, page: Option<LatePage>) -> Result<(), AllocError>
     ensures { OnOk result (map late_view late.new.items ≡ map late_view late.old.items ++ late_list page) }
 {

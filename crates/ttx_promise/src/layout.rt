@@ -1,4 +1,4 @@
-//! Where the packets of a spread plan stand, without the packets.
+//! The slots of the packets of a spread plan, without the packets.
 //!
 //! It follows the rules of `plan_spread`, so that the waits of a plan are known before it is made. No promise rests on it, since the plan is
 //! judged by its cycle: a mistake here would cost time, or raise other pages.
@@ -19,7 +19,7 @@ pub struct Outline {
     pub page: u8,
     /// How many rows are sent.
     pub rows: u32,
-    /// How many packets stand behind its page header.
+    /// How many packets come after its page header.
     pub rest: u32,
 }
 
@@ -118,7 +118,7 @@ impl Latest {
     }
 }
 
-// Puts the block of a page behind the others, where the page stands in this round.
+// Appends the block of a page, if the page is sent in this round.
 fn push_block(
     blocks: &mut Vec<Block>,
     latest: &mut Latest,

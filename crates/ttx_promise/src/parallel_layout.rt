@@ -1,4 +1,4 @@
-//! Where the packets of a spread plan stand in parallel transmission: magazines take turns.
+//! The slots of the packets of a spread plan in parallel transmission: magazines take turns.
 
 ghost use Rattle.std.specs.Prelude.{◌<◌, length, IfSome};
 
@@ -12,20 +12,20 @@ enum Next {
     // The time-filling header before a block.
     Filler,
     Header,
-    // What stands behind the page header.
+    // The packets after the page header.
     Rest,
     // The last time-filling header.
     Last,
     Nothing,
 }
 
-// Where a magazine stands.
+// How far a magazine has got.
 #[derive(Clone, Copy)]
 struct Queue {
     next: Next,
     // The number of its block.
     block: usize,
-    // How many packets behind the page header are sent.
+    // How many packets after the page header are sent.
     sent: u32,
     // The first slot in which such a packet may stand.
     free_at: u32,
@@ -161,7 +161,7 @@ fn no_stands(alloc: Global, count: usize) -> Result<Vec<Stand>, AllocError> {
     Ok(stands)
 }
 
-// Whether packet 8/30 stands in a slot.
+// Whether a slot has packet 8/30.
 fn is_info(frame: Frame, at: u32) -> bool {
     frame.info && at % frame.every() == 0
 }

@@ -24,11 +24,11 @@ use ttx_witness::NoMemory;
 pub struct Viewers {
     /// Their receivers.
     pub receivers: Receivers,
-    /// How often a receiver takes in an item before it shows it, 1 to 8.
+    /// The repeat count: of so many successive transmissions of a character one is received right, 1 to 8.
     pub repeat: u8,
 }
 
-/// What becomes of a plan in one step.
+/// The result of one step.
 #[derive(Drop)]
 pub enum Improved {
     /// Each promise is kept.
@@ -48,7 +48,7 @@ pub enum Missed {
     NoMemory,
 }
 
-// Sends a page twice as often, and plans anew; `None`, and the service as it was, where the cycle might then be too long.
+// Sends a page twice as often, and plans anew. `None` if the cycle might then be too long; the service is then unchanged.
 fn raise(
     alloc: Global,
     service: &mut Service,
@@ -72,7 +72,7 @@ fn raise(
     }
 }
 
-// What is said of a plan that can't be improved.
+// The result for a plan that cannot be improved.
 fn judge(
     alloc: Global,
     service: &Service,
@@ -91,8 +91,8 @@ fn judge(
     }
 }
 
-// Sends the page that is the latest twice as often; `None`, and the service as it was, where no page that is too late can be sent
-// more often.
+// Sends the page that is the latest twice as often. `None` if no page that is too late can be sent
+// more often; the service is then unchanged.
 fn raise_latest(
     alloc: Global,
     service: &mut Service,
@@ -182,7 +182,7 @@ fn begin(
     }
 }
 
-// The plan of a service of which nothing is promised: the service stays as it is.
+// The plan of a service without promises, which stays as it is.
 fn plan_unpromised(alloc: Global, service: &Service, viewers: Viewers) -> Result<Cycle, Missed>
     ensures { Ends viewers [] service.now service.now result }
 {

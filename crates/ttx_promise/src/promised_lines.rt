@@ -26,7 +26,7 @@ fn push_broken(text: &mut String, promise: u32) -> Result<(), AllocError>
     text.push_str(" s")
 }
 
-// Appends how long a viewer waits of so many fields.
+// Appends how long a viewer waits, in fields.
 fn push_of(text: &mut String, fields: u32, promise: u32) -> Result<(), AllocError>
     ensures { OnOk result (string_bytes text.new ≡ string_bytes text.old ++ lines.of_text fields promise) }
 {

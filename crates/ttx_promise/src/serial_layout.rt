@@ -1,4 +1,4 @@
-//! Where the packets of a spread plan stand in serial transmission.
+//! The slots of the packets of a spread plan in serial transmission.
 
 ghost use Rattle.std.specs.Prelude.{◌≤◌};
 

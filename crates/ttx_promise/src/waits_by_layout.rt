@@ -22,7 +22,7 @@ impl Sendings {
         self.count = self.count.wrapping_add(1);
     }
 
-    // The slots of a sending, in this period or a later one.
+    // The slots of one of its transmissions, in this period or a later one.
     fn stand(&self, number: u32, length: u32) -> Stand {
         let count = self.count.max(1);
         let stand = self.stands[(number % count % 8) as usize];
@@ -34,7 +34,7 @@ impl Sendings {
         }
     }
 
-    // The most slots from a page header to the end of what a receiver needs after it: rows so often, X/27/0 once.
+    // The most slots from a page header to the end of what a receiver needs: each row as often as the repeat count, X/27/0 once.
     fn slots(&self, repeat: u8, length: u32) -> u32 {
         let mut most = 0;
         for number in 0..8u32 {

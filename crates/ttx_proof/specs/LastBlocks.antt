@@ -1,4 +1,4 @@
--- Pages of which more is to come when the old cycle ends, or in which the new cycle would be stored (profile).
+-- Pages that are not complete when the old cycle ends, or in which the new cycle would be stored (profile).
 --
 --   BringsAs, Brings        a slot carries an item that a viewer sees of a page
 --   GoesOn                  such a slot stands before the first header of the page's magazine

@@ -1,4 +1,4 @@
--- What a verdict on a splice says when the old cycle has been sent for some periods (profile).
+-- What a verdict on a splice means when the old cycle has been sent for some periods (profile).
 --
 --   IsSentVerdict           first the splice's own verdict; for an accepted one, whether the old cycle has been sent for a deadline
 --   SentMeans               the joined stream is seen, if the verdict is Yes

@@ -1,4 +1,4 @@
--- What is answered and written when the six files of a splice are judged: two packet files, two service definitions, two certificates.
+-- What is returned and written when the six files of a splice are judged: two packet files, two service definitions, two certificates.
 --
 --   AreTwo, RefusesTwo      what two files of one kind are; the first is refused, or it is accepted and the second is refused
 --   ReadsCycles, ReadsServices, ReadsWitnesses      the two files of each kind, in their order
@@ -6,17 +6,19 @@
 --   ReadsSix                all six, or why they are refused
 --   IsSpliceAnswer, IsSentAnswer    the verdict on a splice, and its line; the same when the old cycle has been sent for some periods
 --   AreSixWith              the six files are accepted, and a property holds for their splice
---   Splices, SplicesSent    the verdict on the six files, and its line
---   SplicesFiles, SplicesSentFiles  what is answered and written for the six files
+--   JudgesSix, AnswersSix   the verdict on the six files, with its line, or why they are refused; what is returned and written for them
+--   SplicesFiles, SplicesSentFiles  the same for the two verdicts
 use Rattle.std.specs.Prelude.{◌≡◌, ◌⊎◌, ℕ, List, ⊤, Option, IfSome, Result, Ok, Err}
 use Rattle.ttx_cycle.specs.Cycles.{slots_of}
 use Rattle.ttx_source.specs.Services.{ServiceFields, pages_of}
 use Rattle.ttx_witness.specs.Certificates.{fields_of}
 use Rattle.ttx_witness.specs.Entries.{CertificateFields, certificate_at}
 use Rattle.ttx_files.specs.Answers.{WritesAnswer}
+use Rattle.ttx_files.specs.Telling.{IsTold}
 use Rattle.ttx_files.specs.Texts.{ReadsPackets, ReadsService, ReadsWitness}
 use Rattle.ttx_files.specs.declared.faults.FilesFault.{FilesFault}
 use Rattle.ttx_files.specs.declared.faults.FilesFault.TheVariants.{NoMemory}
+use Rattle.ttx_files.specs.declared.told.Told.{Told}
 use Rattle.ttx_proof.specs.Splicing.{splice_at}
 use Rattle.ttx_proof.specs.Splices.{Splice}
 use Rattle.ttx_proof.specs.SentVerdicts.{IsSentVerdict, SentMeans}
@@ -89,15 +91,6 @@ pub record AreSixWith (a b c d e f : Option (List ℕ)) (Says : Splice → Type 
   pub certificates : AreTwo ReadsWitness e f v w
   pub told : Says (splice_on old new old_service new_service v w)
 
-abbrev pub Splices : Option (List ℕ) → Option (List ℕ) → Option (List ℕ) → Option (List ℕ) → Option (List ℕ) → Option (List ℕ) →
-    SpliceVerdict → List ℕ → Type 0
-Splices a b c d e f verdict line = AreSixWith a b c d e f (λ s. IsSpliceAnswer s verdict line)
-
--- the same when the old cycle has been sent for this many periods
-abbrev pub SplicesSent : Option (List ℕ) → Option (List ℕ) → Option (List ℕ) → Option (List ℕ) → Option (List ℕ) → Option (List ℕ) → ℕ →
-    SentVerdict → List ℕ → Type 0
-SplicesSent a b c d e f periods verdict line = AreSixWith a b c d e f (λ s. IsSentAnswer s periods verdict line)
-
 -- the first file that is refused, or memory ran out
 abbrev pub IsSixRefused : Option (List ℕ) → Option (List ℕ) → Option (List ℕ) → Option (List ℕ) → Option (List ℕ) → Option (List ℕ) →
     FilesFault → Type 0
@@ -112,10 +105,21 @@ ReadsSix a b c d e f (Ok six) =
     × AreTwo ReadsWitness e f (fields_of six.witnesses.old) (fields_of six.witnesses.new)
 ReadsSix a b c d e f (Err fault) = IsSixRefused a b c d e f fault
 
+module _ {V : Type 0} (Says : Splice → V → List ℕ → Type 0) where
+  abbrev pub JudgesSix : Option (List ℕ) → Option (List ℕ) → Option (List ℕ) → Option (List ℕ) → Option (List ℕ) → Option (List ℕ) →
+      Result (Told V) FilesFault → Type 0
+  JudgesSix a b c d e f told = IsTold (λ verdict line. AreSixWith a b c d e f (λ s. Says s verdict line)) (IsSixRefused a b c d e f) told
+
+  abbrev pub AnswersSix : Option (List ℕ) → Option (List ℕ) → Option (List ℕ) → Option (List ℕ) → Option (List ℕ) → Option (List ℕ) →
+      Option (List ℕ) → Option (List ℕ) → Result V FilesFault → Type 0
+  AnswersSix a b c d e f old new result =
+      WritesAnswer (λ verdict line. AreSixWith a b c d e f (λ s. Says s verdict line)) (IsSixRefused a b c d e f) old new result
+
 abbrev pub SplicesFiles : Option (List ℕ) → Option (List ℕ) → Option (List ℕ) → Option (List ℕ) → Option (List ℕ) → Option (List ℕ) →
     Option (List ℕ) → Option (List ℕ) → Result SpliceVerdict FilesFault → Type 0
-SplicesFiles a b c d e f old new result = WritesAnswer (Splices a b c d e f) (IsSixRefused a b c d e f) old new result
+SplicesFiles = AnswersSix IsSpliceAnswer
 
+-- the same when the old cycle has been sent for this many periods
 abbrev pub SplicesSentFiles : Option (List ℕ) → Option (List ℕ) → Option (List ℕ) → Option (List ℕ) → Option (List ℕ) → Option (List ℕ) → ℕ →
     Option (List ℕ) → Option (List ℕ) → Result SentVerdict FilesFault → Type 0
-SplicesSentFiles a b c d e f periods old new result = WritesAnswer (SplicesSent a b c d e f periods) (IsSixRefused a b c d e f) old new result
+SplicesSentFiles a b c d e f periods = AnswersSix (λ s. IsSentAnswer s periods) a b c d e f

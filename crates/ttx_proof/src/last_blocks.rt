@@ -1,4 +1,4 @@
-//! Finds pages of which more is to come when the old cycle ends, and pages in which slots of the new one would be stored.
+//! Finds pages that are not complete when the old cycle ends, and pages in which slots of the new one would be stored.
 
 ghost use Rattle.std.specs.Prelude.{◌≡◌, ◌↔◌, ℕ, ℤ, IsTrue, MatchOption, map, true};
 ghost use Rattle.ttx_cycle.specs.Cycles.{slots_of};
@@ -18,7 +18,7 @@ use ttx_header::PageId;
 use ttx_page::{Page, RowNumber, needed};
 use ttx_witness::{Check, row_in, sends};
 
-/// A page of which more is to come when the old cycle ends.
+/// A page that is not complete when the old cycle ends.
 #[derive(Clone, Copy)]
 pub struct Amid {
     pub page: PageId,

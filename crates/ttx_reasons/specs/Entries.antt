@@ -1,10 +1,10 @@
--- What is said of a reason (profile).
+-- The explanation of a reason (profile).
 --
 --   is_named                a word is the key or the name of a reason
 --   entry_text              the text that explains a reason
 --   edits, distances, IsNearest     how far two names are apart; the first of the reasons whose names are nearest to a word
 --   unknown_line            the line for a word that is no reason
---   IsExplained             what is said of a word, and whether it is a reason
+--   IsExplained             the explanation of a word, and whether it is a reason
 use Rattle.std.specs.Prelude.{◌≡◌, ℕ, Bool, true, false, ◌||◌, List, [], ◌∷◌, ◌++◌, codes, find, length, map, nat_eq, nat_lt, slice_get, Some, None}
 use Rattle.std.specs.List.{IsFirstBest}
 use Rattle.std.specs.Str.{bytes_eq, chars}

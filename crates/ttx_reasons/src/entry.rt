@@ -1,4 +1,4 @@
-//! What the table has of a reason.
+//! An entry of the table of reasons.
 
 /// A reason of a rejection.
 #[derive(Clone, Copy)]

@@ -1,4 +1,4 @@
-//! What is said of a reason.
+//! The explanation of a reason.
 
 ghost use Rattle.std.specs.Prelude.{◌≡◌, ◌<◌, IfOk, find, length, string_bytes};
 ghost use Rattle.ttx_reasons.specs.Entries.{is_named, entry_text, unknown_line, IsExplained};
@@ -7,7 +7,7 @@ use crate::entry::Entry;
 use crate::names::nearest;
 use std::alloc::{AllocError, Global};
 
-/// What is said of a word, and whether it is a reason.
+/// The explanation of a word, and whether it is a reason.
 #[derive(Drop)]
 pub struct Explained {
     pub known: bool,
@@ -48,7 +48,7 @@ fn unknown_line(alloc: Global, name: &str) -> Result<String, AllocError>
     format!(in alloc; "refused: reason: is it {name}?\n")
 }
 
-// What is said of a word that is no reason.
+// The words about a word that is no reason.
 fn unknown(alloc: Global, table: &[Entry], word: &str) -> Result<Explained, AllocError>
     requires some { 0 < length table.now }
     requires none { find (is_named word.now) table.now ≡ None }
@@ -59,7 +59,7 @@ fn unknown(alloc: Global, table: &[Entry], word: &str) -> Result<Explained, Allo
     Ok(Explained { known: false, text })
 }
 
-/// What is said of a word by a table of reasons, which is not empty: of a reason, by its key or its name, its line, what it means and what
+/// The explanation of a word by a table of reasons, which is not empty: for a reason, by its key or its name, its line, what it means and what
 /// to do; of another word, the nearest name.
 pub fn explain(alloc: Global, table: &[Entry], word: &str) -> Result<Explained, AllocError>
     requires { 0 < length table.now }

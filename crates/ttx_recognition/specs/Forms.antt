@@ -3,10 +3,12 @@
 --
 --   as_sent                 packets of 42 bytes, from byte 0 on, as sent
 --   packets_in, packet_at   how many packets the bytes hold, and the 42 bytes of one of them
---   sent_to, read_to        how many of the first n packets are not empty; how many of them read
+--   is_framing, is_framed   the framing code, with its bits in either order; it stands before a packet, where anything does
+--   sent_to, read_to        how many of the first n packets are not empty; how many read behind their framing code
 --   fits                    at least four packets read, and half of those that are not empty
 --   form_at, forms          all forms, by numbers below 260
-use Rattle.std.specs.Prelude.{ℕ, zero, suc, ◌+◌, ◌-◌, ◌*◌, ◌/◌, ◌%◌, Bool, false, ◌&&◌, nat_le, nat_lt, if◌then◌else◌, List, length, map, take, drop}
+use Rattle.std.specs.Prelude.{ℕ, zero, suc, ◌+◌, ◌-◌, ◌*◌, ◌/◌, ◌%◌, Bool, false, ◌&&◌, ◌||◌, ◌==◌, nat_le, nat_lt, if◌then◌else◌, List}
+use Rattle.std.specs.Prelude.{length, map, take, drop, slice_index}
 use Rattle.std.specs.Int.{reverse_bits, w8}
 use Rattle.ttx_packet.specs.Slots.{is_empty}
 use Rattle.ttx_recognition.specs.Packets.{reads}
@@ -24,13 +26,20 @@ ordered reversed packet = if reversed then map (reverse_bits w8) packet else pac
 abbrev pub packet_at : Form → List ℕ → ℕ → List ℕ
 packet_at f bytes i = ordered f.reversed (take 42 (drop (f.off + f.size * i + (f.size - 42)) bytes))
 
+-- 27 or E4. Both are near code words, so that packets often read one byte too early as well, if their framing codes are taken for addresses.
+abbrev pub is_framing : ℕ → Bool
+is_framing byte = (byte == 39) || (byte == 228)
+
+abbrev pub is_framed : Form → List ℕ → ℕ → Bool
+is_framed f bytes i = (f.size == 42) || is_framing (slice_index bytes (f.off + f.size * i + (f.size - 43)))
+
 unfoldable pub sent_to : Form → List ℕ → ℕ → ℕ
 sent_to f bytes zero = zero
 sent_to f bytes (suc n) = if is_empty (packet_at f bytes n) then sent_to f bytes n else suc (sent_to f bytes n)
 
 unfoldable pub read_to : Form → List ℕ → ℕ → ℕ
 read_to f bytes zero = zero
-read_to f bytes (suc n) = if reads (packet_at f bytes n) then suc (read_to f bytes n) else read_to f bytes n
+read_to f bytes (suc n) = if is_framed f bytes n && reads (packet_at f bytes n) then suc (read_to f bytes n) else read_to f bytes n
 
 abbrev pub sent_in : Form → List ℕ → ℕ
 sent_in f bytes = sent_to f bytes (packets_in f bytes)

@@ -1,4 +1,4 @@
--- The line that says what bytes are that are no packets of 42 bytes, and what to do (profile).
+-- The line about bytes that are no packets of 42 bytes: what they are, and what to do (profile).
 --
 --   skip_text, order_text, framing_text     the steps: bytes before the first packet, the order of bits, bytes before each packet
 --   unlike_line             the line

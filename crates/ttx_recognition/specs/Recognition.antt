@@ -2,7 +2,7 @@
 --
 --   judged                  the bytes that are judged: those of 64 packets, or what there is
 --   is_unlike               there are eight packets or more that are not empty, and not one in ten reads
---   IsRecognised            none the less: the first form that fits, or none
+--   IsRecognised            nothing if so many read; otherwise the first form that fits, or none
 use Rattle.std.specs.Prelude.{◌≡◌, ℕ, ◌*◌, ◌<◌, Bool, true, false, ◌&&◌, nat_le, nat_lt, List, take, Option, Some, None}
 use Rattle.ttx_recognition.specs.Forms.{as_sent, sent_in, read_in, fits, form_at, forms}
 use Rattle.ttx_recognition.specs.declared.form.Form.{Form}

@@ -1,7 +1,7 @@
 //! The forms in which packets are delivered.
 
 /// Packets that take `size` bytes each, of which the last 42 are those of a slot; the first packet begins with byte `off`. In some recordings
-/// the bits of each byte stand in reverse order.
+/// the bits of each byte are in reverse order.
 #[derive(Clone, Copy, Debug)]
 pub struct Form {
     pub size: usize,
@@ -9,7 +9,7 @@ pub struct Form {
     pub reversed: bool,
 }
 
-/// What bytes are that are no packets of 42 bytes.
+/// What bytes are if they are no packets of 42 bytes.
 #[derive(Clone, Copy, Debug)]
 pub enum Unlike {
     /// Packets of this form.

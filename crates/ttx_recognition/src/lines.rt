@@ -1,4 +1,4 @@
-//! The line that says what bytes are that are no packets of 42 bytes, and what to do.
+//! The line about bytes that are no packets of 42 bytes: what they are, and what to do.
 
 ghost use Rattle.std.specs.Prelude.{◌≡◌, ◌++◌, ◌-◌, ◌≤◌, OnOk, string_bytes};
 ghost use Rattle.ttx_recognition.specs.Lines.{skip_text, order_text, framing_text, form_text, unlike_text, unlike_line};

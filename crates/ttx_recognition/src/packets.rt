@@ -1,6 +1,6 @@
 //! Whether 42 bytes read as a packet of teletext.
 
-ghost use Rattle.std.specs.Prelude.{◌≡◌, ◌≤◌, length, drop, slice_range};
+ghost use Rattle.std.specs.Prelude.{◌≡◌, ◌≤◌, ◌*◌, nat_le, length, drop, slice_range};
 ghost use Rattle.ttx_code.specs.Words.{is_odd};
 ghost use Rattle.ttx_packet.specs.Slots.{is_empty, are_words};
 ghost use Rattle.ttx_recognition.specs.Packets.{odd_to, is_text, reads};
@@ -30,12 +30,21 @@ fn odd_bytes(bytes: &[u8]) -> usize
     count
 }
 
+// Whether `odd` is at least three quarters of `count`.
+fn are_most(odd: usize, count: usize) -> bool
+    requires few { count ≤ 42 }
+    requires odd { odd ≤ count }
+    ensures { result ≡ nat_le (3 * count) (4 * odd) }
+{
+    3 * count <= 4 * odd
+}
+
 // Whether at least three bytes of four have odd parity.
 fn is_text(bytes: &[u8]) -> bool
     requires { length bytes.now ≤ 42 }
     ensures { result ≡ is_text bytes.now }
 {
-    3 * bytes.len() <= 4 * odd_bytes(bytes)
+    are_most(odd_bytes(bytes), bytes.len())
 }
 
 /// Whether all bytes are zero.
@@ -73,7 +82,7 @@ fn begins_with_words(packet: &[u8; 42]) -> bool
     are_words(&packet[0..3])
 }
 
-/// Whether 42 bytes read as a packet of teletext, even where some of its bits are wrong: a page header or a row whose text has odd parity in
+/// Whether 42 bytes read as a packet of teletext, even if some of its bits are wrong: a page header or a row whose text has odd parity in
 /// three bytes of four, or another packet whose first three bytes are code words.
 pub fn reads(packet: &[u8; 42]) -> bool
     ensures { result ≡ reads packet.now }

@@ -1,16 +1,16 @@
 //! Recognises the form of packets.
 
-ghost use Rattle.std.specs.Prelude.{◌≡◌, ◌<◌, ◌≤◌, ◌+◌, ◌-◌, ◌*◌, ◌&&◌, ℕ, true, false, nat_le, suc, if◌then◌else◌, length, map, take, drop, MatchOption};
+ghost use Rattle.std.specs.Prelude.{◌≡◌, ◌<◌, ◌≤◌, ◌+◌, ◌-◌, ◌*◌, ◌&&◌, ℕ, true, false, nat_le, nat_lt, suc, if◌then◌else◌, length, map, take, drop, MatchOption};
 ghost use Rattle.std.specs.Int.{reverse_bits, w8};
 ghost use Rattle.ttx_packet.specs.Slots.{is_empty};
 ghost use Rattle.ttx_recognition.specs.Packets.{reads};
-ghost use Rattle.ttx_recognition.specs.Forms.{as_sent, packets_in, ordered, packet_at, sent_in, read_in, sent_to, read_to, fits, form_at};
+ghost use Rattle.ttx_recognition.specs.Forms.{as_sent, packets_in, ordered, packet_at, is_framing, is_framed, sent_in, read_in, sent_to, read_to, fits, form_at};
 ghost use Rattle.ttx_recognition.specs.Recognition.{judged, is_unlike, IsFirstForm, FitsNone, IsRecognised};
 
 use crate::form::{Form, Unlike};
 use crate::packets::{is_blank, reads};
 
-/// How many packets are not empty, and how many of them read.
+/// How many packets are not empty, and how many read behind their framing code.
 #[derive(Clone, Copy)]
 pub struct Counts {
     pub sent: usize,
@@ -63,6 +63,25 @@ fn packet_at(form: Form, bytes: &[u8], i: usize) -> [u8; 42]
     ordered(slot_at(bytes, at), form.reversed)
 }
 
+// Whether a byte is the framing code, with its bits in either order.
+fn is_framing(byte: u8) -> bool
+    ensures { result ≡ is_framing byte }
+{
+    byte == 0x27 || byte == 0xE4
+}
+
+// Whether the framing code stands before a packet of a form, or nothing does.
+fn is_framed(form: Form, bytes: &[u8], i: usize) -> bool
+    requires size { 42 ≤ form.size }
+    requires inside { form.off + form.size * i + form.size ≤ length bytes.now }
+    ensures { result ≡ is_framed form bytes.now i }
+{
+    if form.size == 42 {
+        return true;
+    }
+    is_framing(bytes[form.off + form.size * i + (form.size - 43)])
+}
+
 // Counts a packet that is not empty.
 fn with_sent(count: usize, packet: &[u8; 42]) -> usize
     requires { count < 2688 }
@@ -72,13 +91,17 @@ fn with_sent(count: usize, packet: &[u8; 42]) -> usize
     if is_blank(packet) { count } else { count + 1 }
 }
 
-// Counts a packet that reads.
-fn with_read(count: usize, packet: &[u8; 42]) -> usize
+// Counts a packet that reads behind its framing code.
+fn with_read(count: usize, framed: bool, packet: &[u8; 42]) -> usize
     requires { count < 2688 }
-    ensures is { result ≡ (if reads packet.now then suc count else count) }
+    ensures is { result ≡ (if framed && reads packet.now then suc count else count) }
     ensures few { result ≤ count + 1 }
 {
-    if reads(packet) { count + 1 } else { count }
+    if framed && reads(packet) {
+        count + 1
+    } else {
+        count
+    }
 }
 
 // Counts the packets of a form.
@@ -93,10 +116,27 @@ fn counted(form: Form, bytes: &[u8]) -> Counts
     let packets = bytes.len().saturating_sub(form.off) / form.size;
     for i in 0..packets {
         let packet = packet_at(form, bytes, i);
+        let framed = is_framed(form, bytes, i);
         sent = with_sent(sent, &packet);
-        read = with_read(read, &packet);
+        read = with_read(read, framed, &packet);
     }
     Counts { sent, read }
+}
+
+// Whether four packets read, and half of those that are not empty.
+fn are_enough(counts: Counts) -> bool
+    requires { counts.read ≤ 2688 }
+    ensures { result ≡ (nat_le 4 counts.read && nat_le counts.sent (2 * counts.read)) }
+{
+    4 <= counts.read && counts.sent <= 2 * counts.read
+}
+
+// Whether eight packets or more are not empty, and not one in ten reads.
+fn are_too_few(counts: Counts) -> bool
+    requires { counts.read ≤ 2688 }
+    ensures { result ≡ (nat_le 8 counts.sent && nat_lt (10 * counts.read) counts.sent) }
+{
+    8 <= counts.sent && 10 * counts.read < counts.sent
 }
 
 // Whether the bytes are packets of this form: four of them read, and half of those that are not empty.
@@ -105,8 +145,7 @@ fn fits(form: Form, bytes: &[u8]) -> bool
     requires few { length bytes.now ≤ 2688 }
     ensures { result ≡ fits form bytes.now }
 {
-    let counts = counted(form, bytes);
-    4 <= counts.read && counts.sent <= 2 * counts.read
+    are_enough(counted(form, bytes))
 }
 
 // One of the 260 forms.
@@ -149,8 +188,7 @@ fn is_unlike(bytes: &[u8]) -> bool
     requires { length bytes.now ≤ 2688 }
     ensures { result ≡ is_unlike bytes.now }
 {
-    let counts = counted(form_at(0), bytes);
-    8 <= counts.sent && 10 * counts.read < counts.sent
+    are_too_few(counted(form_at(0), bytes))
 }
 
 // The first bytes.
@@ -168,7 +206,7 @@ fn judged(bytes: &[u8]) -> &[u8]
     first(bytes, 2688)
 }
 
-/// Says what bytes are that should be packets of 42 bytes, by their first 2,688 bytes: `None` if at least one packet in ten reads, or if fewer
+/// What bytes are that should be packets of 42 bytes, by their first 2,688 bytes: `None` if at least one packet in ten reads, or if fewer
 /// than eight of them are not empty; otherwise the first form that fits, if there is one. Allocates no memory.
 pub fn recognise(bytes: &[u8]) -> Option<Unlike>
     ensures { IsRecognised (judged bytes.now) result }

@@ -4,7 +4,7 @@ ghost use Rattle.ttx_replay.specs.Laws.{EndingsAreReplayed, AirIsReplayed};
 
 use ttx_air::Newsroom;
 
-/// Where a newsroom answers what the log of an airing records, the same editions take over at the same fields, and the log has the same lines.
+/// If a newsroom answers what the log of an airing records, the same editions take over at the same fields, and the log has the same lines.
 pub fn endings_are_replayed()
     ensures { EndingsAreReplayed }
 {

@@ -20,7 +20,7 @@ pub record Marks : Type 0 where
 abbrev pub marks_of : List ℕ → List ℕ → List ℕ → Marks
 marks_of cycle service certificate = record { cycle = sha256 cycle; service = sha256 service; certificate = sha256 certificate }
 
--- the same of a value of the program
+-- the same for a value of the program
 abbrev pub marks_view : MarksValue → Marks
 marks_view m = record { cycle = m.cycle; service = m.service; certificate = m.certificate }
 

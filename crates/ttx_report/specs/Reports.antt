@@ -1,6 +1,6 @@
 -- A report on a cycle, the service that it carries, and a certificate, as an HTML document.
 --
---   Facts, facts_of         what is found out; the same of a value of the program
+--   Facts, facts_of         what is found out; the same for a value of the program
 --   judged_html, found_html, tail_html, report_html         the parts of the document, and all of it
 --   AreFacts, AreFindings   what is found out is true; and the line of it
 --   IsReport                a document of such facts

@@ -67,7 +67,7 @@ numbers_html w authored = codes "<p>" ++ rule_words w.repeat ++ lines_words w.li
 unfoldable pub nearest_rows : List ℕ
 nearest_rows = codes "<table><tr><th>A decoder that</th><th>is covered by a yes</th></tr>\n"
     ++ codes "<tr><td>shows each row as it comes</td><td>yes</td></tr>\n"
-    ++ codes "<tr><td>shows a page when the next one ends it, as most software decoders do</td><td>only by certify --late</td></tr>\n"
+    ++ codes "<tr><td>shows a page when the next one ends it, as libzvbi does</td><td>only by certify --late</td></tr>\n"
 
 unfoldable pub further_rows : List ℕ
 further_rows =

@@ -170,7 +170,7 @@ fn push_nearest(text: &mut String) -> Result<(), AllocError>
     text.push_str(
         "<table><tr><th>A decoder that</th><th>is covered by a yes</th></tr>\n\
           <tr><td>shows each row as it comes</td><td>yes</td></tr>\n\
-          <tr><td>shows a page when the next one ends it, as most software decoders do</td><td>only by certify --late</td></tr>\n",
+          <tr><td>shows a page when the next one ends it, as libzvbi does</td><td>only by certify --late</td></tr>\n",
     )
 }
 

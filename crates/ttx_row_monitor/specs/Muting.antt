@@ -1,8 +1,8 @@
--- A row that is refused or lost is, to a receiver, a row that is received with one wrong bit in each byte: nothing of it is taken. So a feed is
+-- To a receiver, a row that is refused or lost is like one with one wrong bit in each byte: it stores nothing of it. So a feed is
 -- within the rule by rows if and only if the same feed with such rows in place of torn and lost ones is within the rule by bytes.
 --
 --   flipped                 a byte with its lowest bit wrong
---   IsMutedAs               what stands in place of a slot
+--   IsMutedAs               what replaces a slot
 --   AreMuted                the same for each slot of a feed
 use Rattle.std.specs.Prelude.{bit_xor, ◌≡◌, ◌↔◌, ℕ, ◌<◌, ◌≤◌, pos, ◌+ℤ◌, Bool, true, false, List, [], length, slice_index, slice_index_or}
 use Rattle.ttx_packet.specs.Slots.{IsSlot}

@@ -1,6 +1,6 @@
--- The lines that say what is said of a feed by the rule by rows (profile).
+-- The lines of a verdict on a feed by rows (profile).
 --
---   yes_text                the line of a Yes
+--   yes_text                the yes line
 --   row_way_text            how a slot breaks the rule
 --   row_verdict_text        the text of a verdict
 --   IsRowTold               the verdict on a feed, and its text

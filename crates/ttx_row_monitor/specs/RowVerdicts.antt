@@ -1,6 +1,6 @@
--- What is said of a feed by the rule by rows (profile).
+-- The verdict on a feed by rows (profile).
 --
---   IsWholeByRows, IsBrokenByRows, IsSlippedByRows, HearsRows       how the hearing of a feed ends
+--   IsWholeByRows, IsBrokenByRows, IsSlippedByRows, HearsRows       how the reading of a feed ends
 --   IsHeardByRows           the feed is within the rule; what is counted of it, and who sees each page
 --   start_of, IsRowVerdictOf, IsRowVerdict          the verdict on a feed of these bytes
 use Rattle.std.specs.Prelude.{◌≡◌, ◌⊎◌, ℕ, ◌-◌, ◌^◌, ◌<◌, ◌≤◌, min, List, ◌++◌, length, Option, Some, None}
@@ -13,7 +13,7 @@ use Rattle.ttx_monitor.specs.FeedVerdicts.{IsFoundIn, BeginsAt}
 use Rattle.ttx_row_monitor.specs.RowFeeds.{IsWithinByRows}
 use Rattle.ttx_row_monitor.specs.RowStanding.{HasLost, RowStands, IsRowHeard}
 use Rattle.ttx_row_monitor.specs.RowStepping.{IsRowShift}
-use Rattle.ttx_row_monitor.specs.Laws.{AllReceivedByRows, IsSeenByRowsIn}
+use Rattle.ttx_row_monitor.specs.Laws.{AllReceivedByRows, IsSeenByRowsIn, IsShownByRowsIn}
 use Rattle.ttx_row_monitor.specs.declared.breach.RowBreach.{RowBreach}
 use Rattle.ttx_row_monitor.specs.declared.hearing.Heard.{Heard}
 use Rattle.ttx_row_monitor.specs.declared.hearing.Heard.TheVariants.{End, Broken, Slipped}
@@ -71,6 +71,7 @@ pub record IsHeardByRows (cycle : List (List ℕ)) (pages : List Page) (c : Cert
   pub counted : HasLost (watched cycle pages c.repeat start) feed (length feed) count
   pub lost_are : lost ≡ min count (2 ^ 64 - 1)
   pub seen : Accepts cycle pages c → limit c ≤ length feed → IsSeenByRowsIn (watched cycle pages c.repeat start) feed c
+  pub shown : Accepts cycle pages c → IsShownByRowsIn (watched cycle pages c.repeat start) feed c
 
 abbrev pub start_of : RowVerdict → ℕ
 start_of (Unlike unlike) = 0

@@ -7,7 +7,7 @@ use ttx_monitor::Breach;
 pub enum RowBreach {
     /// By itself: too many wrong bits, or a packet is lost that must not be.
     Slot(Breach),
-    /// Of as many successive transmissions of this row as the repeat count none came whole; the slot is the latest. The page is its index in
+    /// As many successive transmissions of this row as the repeat count did not come whole; the slot is the latest. The page is its index in
     /// the list of pages.
     Row { page: u32, row: u8 },
 }

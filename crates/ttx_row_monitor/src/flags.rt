@@ -15,7 +15,7 @@ use ttx_monitor::{RowPlace, table_of};
 use ttx_page::{Item, Page, RowNumber, needed};
 use ttx_witness::NoMemory;
 
-// Whether a viewer of the page sees this row, 0 being none.
+// Whether a viewer of the page sees this row. Row 0 does not count.
 fn is_needed_row(page: &Page, row: u8) -> bool
     ensures { result ≡ needed (page_of page.now) (TheRow row) }
 {

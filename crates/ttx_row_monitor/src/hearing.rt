@@ -1,4 +1,4 @@
-//! Hears a feed to its end, or to the first slot that breaks the error rule by rows.
+//! Reads a feed to its end, or to the first slot that breaks the error rule by rows.
 
 ghost use Rattle.std.specs.Prelude.{◌≡◌, ◌∷◌, [], ℕ, List, IfOk, IfSome, length};
 ghost use Rattle.ttx_page.specs.Pages.{Page};
@@ -27,7 +27,7 @@ use ttx_files::{FeedFault, Inputs};
 use ttx_monitor::Ahead;
 use ttx_monitor::beginning::{Opened, open};
 
-/// How the hearing of a feed ends: at its end, with so many bytes behind the last slot; at the first breach; or where the feed has slipped by
+/// How the reading of a feed ends: at its end, with so many bytes behind the last slot; at the first breach; or where the feed has slipped by
 /// so many slots. `slot` is the slot of the feed.
 #[derive(Clone, Copy)]
 pub enum Heard {
@@ -36,7 +36,7 @@ pub enum Heard {
     Slipped { slot: u64, by: usize },
 }
 
-// Hears a feed to its end or to the first slot that breaks the rule.
+// Reads a feed to its end or to the first slot that breaks the rule.
 fn hear_all<R: Read>(
     monitor: &mut RowMonitor<'_>,
     ahead: &mut Ahead,
@@ -59,7 +59,7 @@ fn hear_all<R: Read>(
     Ok(Heard::End { rest: 0 })
 }
 
-// What is said of a feed that was heard.
+// The verdict on a feed that was read.
 fn verdict_of(monitor: &RowMonitor<'_>, cycle: &Cycle, start: u32, heard: Heard) -> RowVerdict
     ensures start { start_of result ≡ start }
     ensures is { (pages : List Page) (c : coverage.Certificate) (bytes : List ℕ) → ArePages pages → coverage.IsCertificate c →
@@ -68,6 +68,7 @@ fn verdict_of(monitor: &RowMonitor<'_>, cycle: &Cycle, start: u32, heard: Heard)
 {
     crate::laws::within_is_received_by_rows();
     crate::laws::within_is_seen_by_rows();
+    crate::laws::within_is_shown_by_rows();
     match heard {
         Heard::End { rest } => RowVerdict::Yes {
             start,
@@ -89,7 +90,7 @@ fn verdict_of(monitor: &RowMonitor<'_>, cycle: &Cycle, start: u32, heard: Heard)
     }
 }
 
-/// Hears a feed slot by slot, to its end or to the first slot that breaks the error rule by rows for a page of the service, and says which.
+/// Reads a feed slot by slot, to its end or to the first slot that breaks the error rule by rows for a page of the service, and returns which.
 pub fn watch<R: Read>(
     alloc: Global,
     inputs: &Inputs,

@@ -1,4 +1,4 @@
-//! The lines that say what is said of a feed by the rule by rows.
+//! The lines of a verdict on a feed by rows.
 
 ghost use Rattle.std.specs.Prelude.{◌≡◌, ◌++◌, IfOk, OnOk, map, string_bytes};
 ghost use Rattle.ttx_page.specs.Views.{page_of};
@@ -12,7 +12,7 @@ use ttx_page::Page;
 use ttx_recognition::push_unlike;
 use ttx_witness::NoMemory;
 
-// Appends the line of a Yes.
+// Appends the yes line.
 fn push_yes(text: &mut String, start: u32, slots: u64, lost: u64) -> Result<(), AllocError>
     ensures { OnOk result (string_bytes text.new ≡ string_bytes text.old ++ yes_text start slots lost) }
 {

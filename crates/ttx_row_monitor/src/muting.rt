@@ -1,4 +1,4 @@
-//! Puts a row in which each byte has one wrong bit in place of a row that is refused or lost: a receiver takes nothing of either.
+//! Replaces a row that is refused or lost by one in which each byte has one wrong bit: a receiver stores nothing of either.
 
 ghost use Rattle.std.specs.Prelude.{drop, ◌≡◌, ◌≢◌, ◌↔◌, ◌≤◌, ◌<◌, ℕ, true, false, not, ◌&&◌, IsTrue, map, slice_index};
 ghost use Rattle.ttx_packet.specs.Slots.{IsSlot, is_empty};
@@ -15,7 +15,7 @@ use ttx_monitor::{fits, is_blank};
 use ttx_packet::{Slot, slot_of};
 use ttx_page::Page;
 
-// Whether a receiver takes nothing of the slot.
+// Whether a receiver stores nothing of the slot.
 #[tactic(auto, unfolding(ttx_page::specs::Packets::packet_of))]
 fn is_ignored(slot: &[u8; 42]) -> bool
     ensures { IsTrue result ↔ IsIgnored (packet_of slot.now) }
@@ -62,7 +62,7 @@ fn all_may_lose(pages: &[Page], sent: &[u8; 42]) -> bool
     true
 }
 
-/// Whether a packet is lost that may be.
+/// Whether a packet is lost that may be lost.
 pub fn is_lost(pages: &[Page], sent: &[u8; 42], received: &[u8; 42]) -> bool
     requires received { IsSlot received.now }
     requires sent { IsSlot sent.now }
@@ -120,7 +120,7 @@ fn torn(sent: &[u8; 42]) -> [u8; 42]
     packet
 }
 
-/// Whether a slot arrives within the rule, or is lost where it may be.
+/// Whether a slot arrives within the rule, or is one that may be lost and is.
 pub fn arrives(pages: &[Page], sent: &[u8; 42], received: &[u8; 42]) -> bool
     requires received { IsSlot received.now }
     requires sent { IsSlot sent.now }
@@ -132,7 +132,7 @@ pub fn arrives(pages: &[Page], sent: &[u8; 42], received: &[u8; 42]) -> bool
     is_ignored(received) && all_may_lose(pages, sent)
 }
 
-// Whether the slot sends a row that a viewer sees, and this is not received whole. The flag says so of the row, and counts for packets alone.
+// Whether the slot sends a row that a viewer sees and that is not received whole. The flag says whether a viewer sees it; it counts only for packets.
 fn is_refused(flag: bool, sent: &[u8; 42], received: &[u8; 42]) -> bool
     requires received { IsSlot received.now }
     requires sent { IsSlot sent.now }
@@ -145,7 +145,7 @@ fn is_refused(flag: bool, sent: &[u8; 42], received: &[u8; 42]) -> bool
     !is_whole(sent, received)
 }
 
-/// What is put in place of a slot. The flag says whether the slot sends a row that a viewer sees; it counts for packets alone.
+/// What replaces a slot. The flag says whether the slot sends a row that a viewer sees; it counts only for packets.
 pub fn muted(pages: &[Page], flag: bool, sent: &[u8; 42], received: &[u8; 42]) -> [u8; 42]
     requires received { IsSlot received.now }
     requires sent { IsSlot sent.now }

@@ -1,4 +1,4 @@
-//! Hears one slot of a feed by rows.
+//! Judges one slot of a feed by rows.
 
 ghost use Rattle.std.specs.Prelude.{◌≡◌, [], ◌∷◌, ℕ, List, IfOk};
 ghost use Rattle.ttx_cycle.specs.Counters.{inner_of, faults_of};
@@ -26,7 +26,7 @@ pub enum RowStep {
     End { rest: usize },
 }
 
-/// Hears the next slot of a feed, or finds its end.
+/// Judges the next slot of a feed, or finds its end.
 pub fn hear_next<R: Read>(
     monitor: &mut RowMonitor<'_>,
     ahead: &mut Ahead,

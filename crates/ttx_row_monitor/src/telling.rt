@@ -1,4 +1,4 @@
-//! Monitors a feed by rows and tells the verdict.
+//! Monitors a feed by rows, and writes the verdict.
 
 ghost use Rattle.std.specs.Prelude.{◌∷◌, [], IfOk, IfSome, string_bytes};
 ghost use Rattle.ttx_cycle.specs.Counters.{inner_of, faults_of};
@@ -17,10 +17,10 @@ use std::io::Read;
 use ttx_cycle::Counted;
 use ttx_files::{FeedFault, Inputs, Told};
 
-/// Hears a feed slot by slot, to its end or to the first slot that breaks the error rule by rows for a page of the service, and tells the
+/// Reads a feed slot by slot, to its end or to the first slot that breaks the error rule by rows for a page of the service, and returns the
 /// verdict with its text. It begins with slot `named` of the cycle, or with the slot with which its first period fits best.
 ///
-/// Where the verdict is Yes, the certifier accepts the three inputs, and the feed reaches the deadline, each receiver of this feed that refuses
+/// If the verdict is yes, the certifier accepts the three inputs, and the feed reaches the deadline, each receiver of this feed that refuses
 /// rows shows each page, except perhaps row 0, and row 0 too if the text of the headers arrives. No slot behind the first period is kept.
 /// `Err` if a read fails or memory runs out.
 pub fn monitor_rows<R: Read>(

@@ -1,4 +1,4 @@
-//! What a row monitor says of a feed.
+//! The verdict of a row monitor on a feed.
 
 use crate::breach::RowBreach;
 use ttx_recognition::Unlike;

@@ -43,7 +43,7 @@ LateVerdictsMeanByRows =
     (cycle : List (List ℕ)) (pages : List Page) (w : Certificate) → IsCycle cycle → ArePages pages → IsCertificate w →
     (verdict : LateVerdict) → IsLateVerdict cycle pages w verdict → MeansLateByRows cycle pages w verdict
 
--- Here the premise is what the clause `bytes` of `certify_files` says was read and judged. A premise of its own says that the pages of the
+-- Here the premise is what the clause `bytes` of `certify_files` says was read and judged. A further premise says that the pages of the
 -- service and the certificate are in their ranges: the clause does not say it, although it holds for all that is read.
 abbrev pub FilesMeanByRows : Type 0
 FilesMeanByRows =

@@ -1,4 +1,4 @@
-//! What tells a head-end the time.
+//! The clocks of a head-end.
 
 ghost use Rattle.std.specs.Prelude.{◌≡◌, ℕ};
 ghost use Rattle.ttx_send.specs.Times as times;

@@ -58,7 +58,7 @@ promise_by key page keys (Some value) = fields_of key value >>= (λ n. Ok (promi
 abbrev pub promise_of : List ℕ → ℕ → Members → Result (List PromiseFields) Fault
 promise_of key page keys = promise_by key page keys (get_member key keys)
 
--- the same of an item of the array of pages; pages are counted from 1 in faults
+-- the same for an item of the array of pages; pages are counted from 1 in faults
 abbrev pub promise_in : List ℕ → ℕ → Data → Result (List PromiseFields) (Fault × ℕ)
 promise_in key page value = in_page 0 (of_kind (codes "page") as_table value) >>= (λ keys. in_page (suc page) (promise_of key page keys))
 

@@ -23,7 +23,7 @@ pub struct Promise {
     pub page: usize,
     /// The fields of 0.02 s within which a viewer is to see it, or for which each page of its number is to stay, 1 to 1,000,000.
     pub fields: u32,
-    /// Whether the page says how often it is sent: it has the key `often`.
+    /// Whether the page has the key `often`.
     pub fixed: bool,
 }
 
@@ -64,7 +64,7 @@ fn fields_of(key: Key, value: &Value) -> Result<u32, KeyFault>
     }
 }
 
-/// The promise of the page at an index, where it has one at the key.
+/// The promise of the page at an index, if it has one at the key.
 pub fn promise_of(key: Key, page: usize, table: &Table) -> Result<Option<Promise>, KeyFault>
     ensures { key_outcome promise_list result ≡ rule.promise_of (key_name key) page (table_view table.now) }
 {
@@ -98,7 +98,7 @@ fn promise_in(key: Key, page: usize, value: &Value) -> Result<Option<Promise>, R
     }
 }
 
-// Puts a promise behind the others, where there is one.
+// Appends a promise, if there is one.
 fn push_promise(promises: &mut Vec<Promise>, promise: Option<Promise>) -> Result<(), AllocError>
     ensures { IfOk result (λ _. map promise_view promises.new.items ≡ map promise_view promises.old.items ++ promise_list promise) }
 {

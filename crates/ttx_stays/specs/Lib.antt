@@ -1,4 +1,3 @@
-pub mod Numbers
 pub mod ShortNumbers
 pub mod UnkeptStays
 pub mod StayWarnings

@@ -1,7 +1,7 @@
 -- The warnings about page numbers whose pages may change before they are read (profile).
 --
 --   three_seconds           in fields
---   keeps                   a stay keeps the pages of this one's number so long
+--   keeps                   a stay keeps the pages of this one's number on the screen for so long
 --   is_short                a page is the first of a number with several pages, and no stay keeps these so long
 --   place_text, short_line  the place of the warning; the line of a number with so many pages
 --   short_lines_to, short_lines     the lines of the numbers of the first n pages, and of all
@@ -12,7 +12,7 @@ use Rattle.std.specs.List.{list_any}
 use Rattle.ttx_header.specs.Ids.{Id}
 use Rattle.ttx_page.specs.Pages.{Page}
 use Rattle.ttx_source.specs.Promises.{PromiseFields}
-use Rattle.ttx_stays.specs.Numbers.{share_number, siblings, is_first, number_text}
+use Rattle.ttx_numbers.specs.Numbers.{share_number, siblings, is_first, number_text}
 
 abbrev pub three_seconds : ℕ
 three_seconds = 150

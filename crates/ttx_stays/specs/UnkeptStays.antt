@@ -10,7 +10,7 @@ use Rattle.ttx_digits.specs.PageIds.{id_text}
 use Rattle.ttx_header.specs.Ids.{Id}
 use Rattle.ttx_page.specs.Pages.{Page}
 use Rattle.ttx_source.specs.Promises.{PromiseFields}
-use Rattle.ttx_stays.specs.Numbers.{siblings}
+use Rattle.ttx_numbers.specs.Numbers.{siblings}
 
 unfoldable pub alone_line : Id → List ℕ
 alone_line id = codes "warning page " ++ id_text id ++ codes " stays: no other page has its number" ++ 10 ∷ []

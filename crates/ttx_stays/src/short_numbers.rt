@@ -6,17 +6,17 @@ ghost use Rattle.ttx_page.specs.Views.{page_of};
 ghost use Rattle.ttx_source.specs.PromiseViews.{promise_view};
 ghost use Rattle.ttx_stays.specs.ShortNumbers as rule;
 
-use crate::numbers::{is_first, push_number, share_number, siblings};
 use std::alloc::AllocError;
 use ttx_digits::push_decimal;
 use ttx_header::PageId;
+use ttx_numbers::{is_first, push_number, share_number, siblings};
 use ttx_page::Page;
 use ttx_source::Promise;
 
 // Three seconds, in fields: less is too short to read a page.
 const THREE_SECONDS: u32 = 150;
 
-// Whether a stay keeps the pages of a page's number so long.
+// Whether a stay keeps the pages of a page's number on the screen for so long.
 fn keeps(pages: &[Page], page: &Page, stay: Promise) -> bool
     ensures { result ≡ rule.keeps (map page_of pages.now) (page_of page.now) (promise_view stay) }
 {
@@ -70,8 +70,8 @@ fn push_line(text: &mut String, id: PageId, count: usize) -> Result<(), AllocErr
     )
 }
 
-// Adds the line of the number of the page at an index, if there is one.
-fn push_short(
+/// Adds the line of the number of the page at an index, if there is one.
+pub fn push_short(
     text: &mut String,
     pages: &[Page],
     stays: &[Promise],

@@ -6,10 +6,10 @@ ghost use Rattle.ttx_page.specs.Views.{page_of};
 ghost use Rattle.ttx_source.specs.PromiseViews.{promise_view};
 ghost use Rattle.ttx_stays.specs.UnkeptStays as rule;
 
-use crate::numbers::siblings;
 use std::alloc::AllocError;
 use ttx_digits::{push_decimal, push_id};
 use ttx_header::PageId;
+use ttx_numbers::siblings;
 use ttx_page::Page;
 use ttx_source::Promise;
 
@@ -104,8 +104,13 @@ fn push_unkept(
     }
 }
 
-// Adds the line of a stay, if no plan keeps it.
-fn push_stay(text: &mut String, lines: u8, pages: &[Page], stay: Promise) -> Result<(), AllocError>
+/// Adds the line of a stay, if no plan keeps it.
+pub fn push_stay(
+    text: &mut String,
+    lines: u8,
+    pages: &[Page],
+    stay: Promise,
+) -> Result<(), AllocError>
     requires few { length pages.now ≤ 2000 }
     ensures { OnOk result (string_bytes text.new ≡ string_bytes text.old ++ rule.stay_text lines (map page_of pages.now) (promise_view stay)) }
 {

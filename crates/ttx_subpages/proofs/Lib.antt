@@ -15,5 +15,4 @@ mod ShownStays
 mod NextHeaders
 mod LongestIntervals
 mod NumbersVerdicts
-mod JudgedNumbers
 mod FirstPages

@@ -1,26 +1,21 @@
--- What is answered and written when a packet file, a service definition and a certificate are certified for viewers who key a page
+-- What is returned and written when a packet file, a service definition and a certificate are certified for viewers who key a page
 -- number alone.
 --
 --   IsJudgedByNumber        the verdict on what was read, and its text
---   CertifiesNumbers        the same of three inputs
---   JudgesFilesByNumber, CertifiesFilesByNumber     what is told of them; what has been written, for each answer
+--   CertifiesNumbers        the same for three inputs
+--   CertifiesFilesByNumber  what has been written, for each answer
 use Rattle.std.specs.Prelude.{◌≡◌, ℕ, List, length, Option, Result}
 use Rattle.ttx_page.specs.Streams.{repeated}
 use Rattle.ttx_source.specs.Services.{ServiceFields, pages_of}
 use Rattle.ttx_certificate.specs.Entries.{CertificateFields, certificate_at}
-use Rattle.ttx_cycle.specs.Files.{IsPacketFile}
-use Rattle.ttx_files.specs.Answers.{WritesAnswer}
-use Rattle.ttx_files.specs.Inputs.{IsRefused}
-use Rattle.ttx_files.specs.Telling.{IsTold}
-use Rattle.ttx_files.specs.Texts.{IsServiceText, IsCertificateText}
+use Rattle.ttx_files.specs.Judging.{IsJudged, AnswersFiles}
 use Rattle.ttx_files.specs.declared.faults.FilesFault.{FilesFault}
-use Rattle.ttx_files.specs.declared.told.Told.{Told}
 use Rattle.ttx_subpages.specs.NumberReports.{AreReports, numbers_verdict_text}
 use Rattle.ttx_subpages.specs.NumbersVerdicts.{IsNumbersVerdict, MeansNumbers}
 use Rattle.ttx_subpages.specs.declared.reports.NumberReport.{NumberReport}
 use Rattle.ttx_subpages.specs.declared.verdict.NumbersVerdict.{NumbersVerdict}
 
--- the verdict on a cycle, the pages of a service and a certificate, and its text, with what is said of each number
+-- the verdict on a cycle, the pages of a service and a certificate, and its text, with the report on each number
 pub record IsJudgedByNumber (slots : List (List ℕ)) (service : ServiceFields) (w : CertificateFields) (verdict : NumbersVerdict) (text : List ℕ)
     : Type 0 where
   pub exact : IsNumbersVerdict slots (pages_of service) (certificate_at w) verdict
@@ -30,18 +25,9 @@ pub record IsJudgedByNumber (slots : List (List ℕ)) (service : ServiceFields) 
   pub text_is : text ≡ numbers_verdict_text w (length service.pages) reports verdict
 
 -- the three inputs are a packet file, a service definition and a certificate, and this is the verdict on them
-pub record CertifiesNumbers (a b c : List ℕ) (verdict : NumbersVerdict) (text : List ℕ) : Type 0 where
-  pub slots : List (List ℕ)
-  pub service : ServiceFields
-  pub w : CertificateFields
-  pub cycle_is : IsPacketFile a slots
-  pub service_is : IsServiceText b service
-  pub certificate_is : IsCertificateText c w
-  pub judged : IsJudgedByNumber slots service w verdict text
-
-abbrev pub JudgesFilesByNumber : List ℕ → List ℕ → List ℕ → Result (Told NumbersVerdict) FilesFault → Type 0
-JudgesFilesByNumber a b c told = IsTold (CertifiesNumbers a b c) (IsRefused a b c) told
+abbrev pub CertifiesNumbers : List ℕ → List ℕ → List ℕ → NumbersVerdict → List ℕ → Type 0
+CertifiesNumbers = IsJudged IsJudgedByNumber
 
 -- Ok: the text of the verdict was written. A write fault: its first `written` bytes. Any other fault: nothing, and why the inputs are refused.
 abbrev pub CertifiesFilesByNumber : List ℕ → List ℕ → List ℕ → Option (List ℕ) → Option (List ℕ) → Result NumbersVerdict FilesFault → Type 0
-CertifiesFilesByNumber a b c old new result = WritesAnswer (CertifiesNumbers a b c) (IsRefused a b c) old new result
+CertifiesFilesByNumber = AnswersFiles IsJudgedByNumber

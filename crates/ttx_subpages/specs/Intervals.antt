@@ -3,7 +3,7 @@
 --   ComeAgainWithin         after each header of a page with the number the next one of the same page comes within so many slots
 --   IsLongest, IsIntervalOf in no fewer slots; None where a page with the number has no header
 --   longer_of               the longer of two intervals, where 0 says that there is no header
---   IsAmong, HasUnsent, IsLongestBelow, LongestBelow        the same of the first pages of the list
+--   IsAmong, HasUnsent, IsLongestBelow, LongestBelow        the same for the first pages of the list
 use Rattle.std.specs.Prelude.{◌≡◌, ◌⊎◌, ℕ, ◌<◌, ◌≤◌, true, ◌==◌, if◌then◌else◌, nat_lt, List, slice_get, Option, Some, None, MatchOption}
 use Rattle.ttx_page.specs.Pages.{Page}
 use Rattle.ttx_page.specs.declared.selection.Selection.TheVariants.{Exact}

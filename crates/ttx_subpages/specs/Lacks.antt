@@ -1,4 +1,4 @@
--- What is found where the subpages of a number are not sent whole.
+-- What is found if the subpages of a number are not sent whole.
 --
 --   is_under, comes_in      a sure transmission under the header at a slot; whether an item comes so, by the transmissions of a period
 --   IsUnwhole               an item does not come under a header of a page

@@ -1,17 +1,16 @@
--- What is said of each number with several pages, and the lines of a verdict on them (profile).
+-- The report on each number with several pages, and the lines of a verdict on them (profile).
 --
 --   IsStayOrNone, IsReport    a number's pages, how long they stay and how soon they come again
 --   AreReportsBelow, AreReports   so of the numbers with several pages, and no others
---   number_text             a page number, as in `110`
 --   amounts_text, number_line, numbers_text     the line of a number, and of each
---   slot_text, unwhole_line, unlisted_line, lack_line   the No for what is not sent whole
+--   slot_text, unwhole_line, unlisted_line, lack_line   the no lines for what is not sent whole
 --   numbers_verdict_text    the text of a verdict
 use Rattle.std.specs.Prelude.{◌≡◌, ◌⊎◌, ℕ, ◌+◌, List, [], ◌∷◌, ◌++◌, map, take, filter, codes, flat_map}
 use Rattle.std.specs.List.{AllByRecursion}
 use Rattle.std.specs.Fmt.{decimal}
 use Rattle.ttx_header.specs.Ids.{Id}
-use Rattle.ttx_digits.specs.Digits.{hex_digit, hex_byte}
 use Rattle.ttx_digits.specs.PageIds.{id_text}
+use Rattle.ttx_numbers.specs.Numbers.{number_text}
 use Rattle.ttx_page.specs.Pages.{Page}
 use Rattle.ttx_page.specs.declared.item.Item.{Item}
 use Rattle.ttx_page.specs.declared.selection.Selection.{Selection}
@@ -49,9 +48,6 @@ pub record AreReports (s : Stream) (pages : List Page) (reports : List NumberRep
   pub firsts : map (λ t. t.first) reports ≡ map (λ p. p.id) (firsts_of pages)
   pub each : AllByRecursion (IsReport s pages) reports
 
-abbrev pub number_text : Id → List ℕ
-number_text id = hex_digit id.mag ∷ hex_byte id.page
-
 abbrev pub amounts_text : ℕ → ℕ → ℕ → List ℕ
 amounts_text most pages stay = codes " pages " ++ decimal pages ++ codes " every " ++ decimal most ++ codes " slots stays " ++ decimal stay ++ 10 ∷ []
 
@@ -74,7 +70,7 @@ abbrev pub lack_line : Lack → List ℕ
 lack_line (Unwhole page item slot) = unwhole_line page item slot
 lack_line (Unlisted page slot) = unlisted_line page slot
 
--- the verdict on so many pages: the line of a Yes and a line for each number, seen within the deadline and the gap; or the line of a No
+-- the verdict on so many pages: the yes line and a line for each number, seen within the deadline and the gap; or the no line
 abbrev pub numbers_verdict_text : CertificateFields → ℕ → List NumberReport → NumbersVerdict → List ℕ
 numbers_verdict_text w pages reports (Yes gap) = late_text w pages gap ++ numbers_text (limit (certificate_at w) + gap) reports
 numbers_verdict_text w pages reports (No verdict) = late_verdict_line w pages verdict

@@ -9,7 +9,8 @@ use Rattle.std.specs.Prelude.{◌≡◌, ℕ, ◌+◌, ◌*◌, ◌-◌, ◌/◌
 use Rattle.std.specs.Fmt.{decimal}
 use Rattle.ttx_page.specs.Streams.{repeated}
 use Rattle.ttx_source.specs.Services.{ServiceFields, pages_of}
-use Rattle.ttx_subpages.specs.NumberReports.{AreReports, number_text}
+use Rattle.ttx_numbers.specs.Numbers.{number_text}
+use Rattle.ttx_subpages.specs.NumberReports.{AreReports}
 use Rattle.ttx_subpages.specs.declared.reports.NumberReport.{NumberReport}
 
 abbrev pub in_tenth : ℕ → ℕ

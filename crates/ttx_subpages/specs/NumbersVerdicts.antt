@@ -1,7 +1,7 @@
--- What a verdict on all numbers with several pages says (profile).
+-- The verdict on all numbers with several pages (profile).
 --
---   IsYes                   a Yes of the certifier for receivers that show a page late
---   verdict_with            the verdict where it is Yes, by the first lack
+--   IsYes                   a yes of the certifier for receivers that show a page late
+--   verdict_with            the verdict if that is yes, by what is missing first
 --   IsNumbersVerdict        the verdict on a cycle, pages and a certificate
 --   IsSeenByNumber          how viewers see a subpage
 --   MeansNumbers            if it is Yes, the subpages of each such number are seen so
@@ -27,7 +27,7 @@ IsYes (late.Yes gap) = Unit {0}
 IsYes (late.No reason) = ⊥
 IsYes (late.NeverShown page slot) = ⊥
 
--- Yes if nothing lacks
+-- yes if nothing is missing
 abbrev pub verdict_with : ℕ → Option Lack → NumbersVerdict
 verdict_with gap None = Yes gap
 verdict_with gap (Some lack) = Lacking lack

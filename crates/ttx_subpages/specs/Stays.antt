@@ -3,9 +3,9 @@
 --   IsNextInMagazine        the next header of a magazine after a slot, at which the block ends
 --   MayEndNext, StaysAfter  a slot at which a later block of the number may end; from the end of a block there are so many slots to it
 --   StaysFor, IsLeastStay   so it is of each block that is looked at; and of no more slots
---   IsStayAfter, IsStayOfOne, StayBelow, lesser_of  the same of one header, and of those in the first slots of a cycle
+--   IsStayAfter, IsStayOfOne, StayBelow, lesser_of  the same for one header, and of those in the first slots of a cycle
 --   ComesAgainWithin, IsGreatestInterval    after each such header another comes within so many slots; and in no fewer
---   IntervalBelow           the same of the headers in the first slots of a cycle
+--   IntervalBelow           the same for the headers in the first slots of a cycle
 --   ShowsFor                a receiver set to the number shows the page for so many slots from the end of each block of it
 use Rattle.std.specs.Prelude.{List, length, ◌≡◌, ◌⊎◌, ℕ, ◌<◌, ◌≤◌, ℤ, pos, ◌+ℤ◌, ◌<ℤ◌, ◌≤ℤ◌, true, false, if◌then◌else◌, nat_lt, Option, Some, None}
 use Rattle.ttx_page.specs.Packets.{packet_of}

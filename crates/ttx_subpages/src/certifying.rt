@@ -1,4 +1,4 @@
-//! Certifying for viewers who key page numbers alone.
+//! Certifying for viewers who key only page numbers.
 
 ghost use Rattle.std.specs.Prelude.{◌≡◌, IfOk};
 ghost use Rattle.ttx_cycle.specs.Cycles.{slots_of};
@@ -25,9 +25,9 @@ fn verdict_with(gap: usize, lack: Option<Lack>) -> NumbersVerdict
     }
 }
 
-/// The verdict of `certify_late`, and if that is Yes, whether the subpages of each number with several pages are sent whole.
+/// The verdict of `certify_late`, and if that is yes, whether the subpages of each number with several pages are sent whole.
 ///
-/// If this verdict is Yes, then for each such number each of its subpages is seen in turn, whole, by whoever keys the number alone, and
+/// If this verdict is yes, then for each such number each of its subpages is seen in turn, whole, by viewers who key only the number, and
 /// nothing else is: on each receiver that shows a page only where it ends, from any tuning slot, with any former memory, under each
 /// reception in which the text of the subpages comes right once a sending, whatever the certificate's repeat count. Each comes again
 /// within `greatest_interval` and the gap, and is shown as long as `least_stay` says. Every permitted receiver, one that shows each row as it

@@ -30,7 +30,7 @@ fn is_under(t: Transmission, at: i32, period: u32) -> bool
     t.sure && (t.owner == at || i64::from(t.owner) + i64::from(period) == i64::from(at))
 }
 
-// Whether one of the transmissions is such.
+// Whether one of the transmissions is.
 fn comes_under(sent: &[Transmission], at: i32, period: u32) -> bool
     ensures { result ≡ list_any (is_under at period) sent.now }
 {
@@ -113,7 +113,7 @@ fn lack_at(sendings: &Sendings, slot: usize) -> Option<Lack>
     }
 }
 
-// What the first slot lacks that lacks anything.
+// What is missing at the first slot at which anything is.
 fn lack_among(sendings: &Sendings) -> Option<Lack>
     ensures { MatchOption result (AllSendWhole (repeated (slots_of sendings.now.cycle.now)) (map page_of sendings.now.pages.now) sendings.now.lines)
         (IsFirstLack (slots_of sendings.now.cycle.now) (map page_of sendings.now.pages.now) sendings.now.lines) }
@@ -129,7 +129,7 @@ fn lack_among(sendings: &Sendings) -> Option<Lack>
     None
 }
 
-// What the first header of a number with several pages lacks that lacks anything, of pages with distinct ids.
+// What is missing at the first header of a number with several pages at which anything is, for pages with distinct ids.
 pub(crate) fn lack_in(
     alloc: Global,
     cycle: &Cycle,

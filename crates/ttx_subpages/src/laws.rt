@@ -37,7 +37,7 @@ pub fn accepted_are_seen()
     ttx_page::laws::steady_sends_its_own();
 }
 
-/// The same of an accepted cycle, within the slots that `greatest_interval` says of the subpage, and the slots to the header behind it.
+/// The same for an accepted cycle, within the slots of the subpage's `greatest_interval`, and those to the next header after it.
 pub fn accepted_are_seen_again()
     ensures { AcceptedAreSeenAgain }
 {
@@ -56,7 +56,7 @@ pub fn blocks_are_held()
     ttx_receiver::laws::steps_keep_memories();
 }
 
-/// The same of an accepted cycle.
+/// The same for an accepted cycle.
 pub fn accepted_are_held()
     ensures { AcceptedAreHeld }
 {
@@ -84,7 +84,7 @@ pub fn planned_are_seen()
     planned_send_whole();
 }
 
-/// A subpage that is seen in turn is shown from the end of its block for as many slots as `least_stay` says of the number.
+/// A subpage that is seen in turn is shown from the end of its block for as many slots as the `least_stay` of its number.
 pub fn stays_are_shown()
     ensures { StaysAreShown }
 {}

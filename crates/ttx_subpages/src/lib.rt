@@ -1,4 +1,4 @@
-//! Subpages of one page number, as viewers see them who key the number alone: what a cycle has to send so that receivers that show a
+//! Subpages of one page number, as viewers see them who key only the number: what a cycle has to send so that receivers that show a
 //! page only where it ends show each subpage in turn, and whole.
 #![tactic(auto)]
 
@@ -21,7 +21,7 @@ pub use files::certify_files_numbers;
 pub use intervals::longest_interval;
 pub use lack::Lack;
 pub use lacks::first_lack;
-pub use number_lines::{numbers_verdict_text, push_number};
+pub use number_lines::numbers_verdict_text;
 pub use numbers::count_of;
 pub use reports::{NumberReport, number_reports};
 pub use stays::{greatest_interval, least_stay};

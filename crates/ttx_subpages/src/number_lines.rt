@@ -5,26 +5,20 @@ ghost use Rattle.ttx_digits.specs.PageIds.{id_text};
 ghost use Rattle.ttx_certificate.specs.CertificateTexts.{item_text};
 ghost use Rattle.ttx_certificate.specs.Certificates.{certificate_of, fields_of};
 ghost use Rattle.ttx_certificate.specs.NamedStarts.{limit};
-ghost use Rattle.ttx_subpages.specs.NumberReports.{number_text, amounts_text, number_line, numbers_text};
+ghost use Rattle.ttx_numbers.specs.Numbers.{number_text};
+ghost use Rattle.ttx_subpages.specs.NumberReports.{amounts_text, number_line, numbers_text};
 ghost use Rattle.ttx_subpages.specs.NumberReports.{slot_text, unwhole_line, unlisted_line, lack_line, numbers_verdict_text};
 
 use crate::lack::Lack;
 use crate::reports::NumberReport;
 use crate::verdict::NumbersVerdict;
 use std::alloc::{AllocError, Global};
-use ttx_digits::{digit, push_byte, push_id};
+use ttx_digits::push_id;
 use ttx_header::PageId;
 use ttx_late::{LateVerdict, late_verdict_line};
+use ttx_numbers::push_number;
 use ttx_page::Item;
 use ttx_witness::{Certificate, NoMemory, push_item};
-
-/// Appends the number of a page, as in `110`.
-pub fn push_number(text: &mut String, page: PageId) -> Result<(), AllocError>
-    ensures { OnOk result (string_bytes text.new ≡ string_bytes text.old ++ number_text page) }
-{
-    text.push(digit(page.mag()))?;
-    push_byte(text, page.page())
-}
 
 // Appends how many pages a number has, how often each is seen, and how long.
 fn push_amounts(text: &mut String, most: u128, pages: usize, stay: usize) -> Result<(), AllocError>
@@ -92,7 +86,7 @@ fn push_unlisted(text: &mut String, page: PageId, slot: usize) -> Result<(), All
     push_at(text, page, slot)
 }
 
-// Appends the line of a No for what is not sent whole.
+// Appends the no line for what is not sent whole.
 fn push_lack(text: &mut String, lack: Lack) -> Result<(), AllocError>
     ensures { OnOk result (string_bytes text.new ≡ string_bytes text.old ++ lack_line lack) }
 {
@@ -119,7 +113,7 @@ fn lack_text(alloc: Global, lack: Lack) -> Result<String, NoMemory>
     }
 }
 
-/// The text of a verdict: the line of a Yes, and a line for each number in `reports`; or the line of the No. Each line ends with the byte
+/// The text of a verdict: the yes line, and a line for each number in `reports`; or the no line. Each line ends with the byte
 /// 0A. `Err` if memory runs out.
 pub fn numbers_verdict_text(
     alloc: Global,

@@ -1,4 +1,4 @@
-//! What is reported of each number with several pages.
+//! The report on each number with several pages.
 
 ghost use Rattle.std.specs.Prelude.{◌≡◌, ◌+◌, ◌++◌, ◌∷◌, ◌<◌, [], IfOk, OnOk, length, map};
 ghost use Rattle.ttx_page.specs.Streams.{repeated};
@@ -27,7 +27,7 @@ pub struct NumberReport {
     pub interval: Option<usize>,
 }
 
-// What is said of the number of the page with this id.
+// The report on the number of the page with this id.
 fn report(cycle: &Cycle, pages: &[Page], first: PageId, count: usize) -> NumberReport
     ensures id { result.first ≡ first }
     ensures pages { result.pages ≡ count }
@@ -47,7 +47,7 @@ fn report(cycle: &Cycle, pages: &[Page], first: PageId, count: usize) -> NumberR
     }
 }
 
-// Keeps what is said of a number.
+// Keeps the report on a number.
 fn keep(reports: &mut Vec<NumberReport>, report: NumberReport) -> Result<(), NoMemory>
     ensures { OnOk result (reports.new.items ≡ reports.old.items ++ report ∷ []) }
 {

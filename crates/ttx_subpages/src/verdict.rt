@@ -1,9 +1,9 @@
-//! What the certifier says of all numbers with several pages.
+//! The verdict on all numbers with several pages.
 
 use crate::lack::Lack;
 use ttx_late::LateVerdict;
 
-/// Whether the subpages of each number are seen in turn by viewers who key the number alone; if not, the first reason.
+/// Whether the subpages of each number are seen in turn by viewers who key only the number; if not, the first reason.
 #[derive(Clone, Copy)]
 pub enum NumbersVerdict {
     /// They are, each within `gap` slots after the deadline and again and again, and nothing else is.

@@ -5,10 +5,10 @@ ghost use Rattle.ttx_cycle.specs.Cycles.{slots_of};
 ghost use Rattle.ttx_subpages.specs.NumberWaits.{in_tenth, tenths, tenths_up, tenths_text, amounts_text};
 ghost use Rattle.ttx_subpages.specs.NumberWaits.{number_wait_line, number_waits_text, IsNumberWaits};
 
-use crate::number_lines::push_number;
 use crate::reports::{NumberReport, number_reports};
 use std::alloc::{AllocError, Global};
 use ttx_cycle::Cycle;
+use ttx_numbers::push_number;
 use ttx_source::Service;
 use ttx_witness::NoMemory;
 

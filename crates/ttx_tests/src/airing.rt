@@ -1,4 +1,4 @@
-//! Services on the air: what `air` writes, what its log says, and what it answers.
+//! Services on the air: what `air` writes, its log, and what it returns.
 
 use crate::changes::edition;
 use std::alloc::{AllocError, Global};
@@ -8,7 +8,7 @@ use ttx_cycle::Counted;
 use ttx_cycle::faulty::FaultyWriter;
 use ttx_send::Moment;
 
-// What the newsroom of the tests answers.
+// The answers of the newsroom in the tests.
 #[derive(Clone, Copy)]
 enum Told {
     Edition(bool, u32),
@@ -47,7 +47,7 @@ fn news(alloc: Global, told: Told) -> Result<News, AllocError> {
     }
 }
 
-// The answers, the last one first: a change, a text that is none, other numbers, nothing new, and back.
+// The answers, the last one first: a change, a text without an edition, other numbers, nothing new, and back.
 static TOLD: [Told; 5] = [
     Told::Edition(false, 36),
     Told::Nothing,
@@ -89,7 +89,7 @@ fn aired(
     Ok(Some((answer, noted, written)))
 }
 
-// An edition holds for 72 slots, which are three periods of 28; the first one has no begin.
+// An edition is held for 72 slots, which are three periods of 28; the first one has no beginning.
 static AT_ONCE: &[u8] =
     b"field 0 2025-11-21T01:00:00+01:00 on air a: 1 page, deadline 36 fields (0.72 s), 28 slots\n\
       field 14 2025-11-21T01:00:00+01:00 changed b: 0 pages new, 0 gone, deadline 36\n\
@@ -107,7 +107,7 @@ static LATE: &[u8] =
       field 98 2025-11-21T01:00:01+01:00 kept b: no 9 unfollowed 100/0000\n\
       field 150 2025-11-21T01:00:03+01:00 end\n";
 
-// The FNV-1a sum.
+// The FNV-1a hash.
 fn sum(bytes: &[u8]) -> u32 {
     let mut sum: u32 = 0x811c_9dc5;
     for byte in bytes {

@@ -14,7 +14,7 @@ fn characters(alloc: Global, text: &str) -> Result<Vec<char>, Fail> {
     Ok(characters)
 }
 
-// The text means these codes, and then spaces; and the text of the row is the text.
+// The text means these codes, followed by spaces; and it is the text that is written for the row.
 fn means(
     rt: &impl Abort,
     alloc: Global,

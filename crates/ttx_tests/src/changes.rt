@@ -1,4 +1,4 @@
-//! Changes from one cycle to another after so many periods of the old one: what `splice_files_sent` answers, and what a head-end does.
+//! Changes from one cycle to another after so many periods of the old one: what `splice_files_sent` returns, and what a head-end does.
 
 use crate::base::{self, SERVICE, certificate_text};
 use std::alloc::{AllocError, Global};
@@ -26,7 +26,7 @@ static CHANGES: [(u32, u32, u32, &[u8]); 9] = [
     (28, 28, 1, b"no 6 too-soon 28\n"),
 ];
 
-// What is answered where the worked cycle follows itself, and how many bytes of the room are written.
+// What is returned if the worked cycle follows itself, and how many bytes of the room are written.
 fn changed(
     alloc: Global,
     cycle: &[u8],
@@ -119,7 +119,7 @@ pub(crate) fn edition(
     Ok(None)
 }
 
-// What is answered where an edition is to follow.
+// What is returned if an edition is to follow.
 enum Answer {
     Follows,
     TooSoon(u32),
@@ -136,7 +136,7 @@ fn is_answer(answer: &Result<Edition, ChangeFault>, wanted: &Answer) -> bool {
     }
 }
 
-// With 36 fields of two lines an edition holds for 72 slots, which are three periods of 28; the first one has no begin. How many periods go
+// With 36 fields of two lines an edition is held for 72 slots, which are three periods of 28; the first one has no beginning. How many periods go
 // out, whether the turned cycle is to follow then, its deadline, and the answer.
 static FOLLOWING: [(usize, bool, u32, Answer); 7] = [
     (1, true, 36, Answer::Follows),

@@ -55,7 +55,7 @@ fn odd_parity_of_a_text(rt: HostRuntime) {
     }
 }
 
-// A byte in 40 spaces, its place, and whether all are of odd parity. The last eight places aren't in the lanes.
+// A byte among 40 spaces, its place, and whether all have odd parity. The last eight places are not in the lanes of the vector.
 static PARITIES: [(usize, u8, bool); 6] = [
     (0, 0x20, true),
     (31, 0x54, true),

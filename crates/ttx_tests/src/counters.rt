@@ -10,26 +10,26 @@ use ttx_cycle::Cycle;
 use ttx_header::Control;
 use ttx_page::PageMemory;
 
-// The slots of the run, of how many transmissions one is right, and in which slots a character is hit, or in which one, said twice;
+// The slots of the run, of how many transmissions one is right, and the two slots in which a character is hit (or one slot, given twice);
 // whether it is a counter-run.
 static RUNS: [(u32, u8, [u32; 2], bool); 4] = [
     (80, 2, [52, 52], true),
-    // and where it was hit before, one of two isn't right
+    // and if it was hit before, neither of the two is right
     (80, 2, [52, 24], false),
     // one slot later it has come again
     (81, 2, [52, 52], false),
-    // where each transmission is to be right, none may be hit
+    // if each transmission has to be right, none may be hit
     (80, 1, [52, 52], false),
 ];
 
-// A memory of spaces, but for an X at the begin of row 23.
+// A memory of spaces, except an X at the beginning of row 23.
 fn an_x_in_row_23() -> Option<PageMemory> {
     let mut rows = [[0x20; 40]; 25];
     rows[23][0] = 0x58;
     PageMemory::new(rows, Control(0), [None; 6], false, false, 64, true)
 }
 
-// The first character of row 23 is received wrong in these slots, or in the one that is said twice.
+// The first character of row 23 is received wrong in these slots, or in the one that is given twice.
 fn hits(alloc: Global, places: [u32; 2]) -> Result<Vec<Hit>, AllocError> {
     let mut hits = Vec::new(alloc);
     for index in places {
@@ -44,7 +44,7 @@ fn hits(alloc: Global, places: [u32; 2]) -> Result<Vec<Hit>, AllocError> {
     Ok(hits)
 }
 
-// A run of page 100 from slot 1 on, out of this memory and without choices.
+// A run of page 100 from slot 1 on, from this memory and without choices.
 fn run(alloc: Global, former: PageMemory, slots: u32, repeat: u8, hits: Vec<Hit>) -> Counter {
     Counter {
         page: 0,

@@ -34,7 +34,7 @@ fn found_in(alloc: Global, author: &[u8]) -> Vec<Mistake> {
     }
 }
 
-// The page has these lines of mistakes.
+// The mistakes of the page give these lines.
 fn mistakes(rt: &impl Abort, alloc: Global, page: &str, lines: &str) -> Result<(), Fail> {
     let author = with_settings(alloc, page)?;
     let found = found_in(alloc, author.as_bytes());

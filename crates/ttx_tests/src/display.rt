@@ -5,7 +5,7 @@ use ttx_page::PageMemory;
 use ttx_render::{View, cell_word, render};
 
 // Control bits, the number of a row, its codes before spaces, and the code of all columns of the next row; the words that are shown of
-// the row, where the last one stands in all columns to the right too, and those of columns 0, 1 and 2 to 39 of the next row, or 0 for any.
+// the row, of which the last one is also in all columns to the right, and those of columns 0, 1 and 2 to 39 of the next row, or 0 for any.
 #[rattlefmt::skip]
 static SHOWN: [(u16, usize, [u8; 8], u8, [u32; 9], [u32; 3]); 12] = [
     // held mosaics last until the mode changes
@@ -42,7 +42,7 @@ static SHOWN: [(u16, usize, [u8; 8], u8, [u32; 9], [u32; 3]); 12] = [
         [0x00e000eb, 0x00e00020, 0x00e00020, 0x00e00020, 0x00e00020, 0x00e00020, 0x00e00020, 0x00e00020, 0x00e00020], [0x00e00020; 3]),
 ];
 
-// A memory of these control bits, blank but for a row and the next one.
+// A memory with these control bits, blank except for a row and the next one.
 fn memory_of(control: u16, number: usize, codes: &[u8; 8], next: u8) -> Option<PageMemory> {
     let mut rows = [[b' '; 40]; 25];
     if number < 24 {

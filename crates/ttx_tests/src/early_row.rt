@@ -23,13 +23,13 @@ fn slots(alloc: Global) -> Result<Vec<[u8; 42]>, AllocError> {
     Ok(slots)
 }
 
-// The character in column 0 of row 1 once these slots are received.
+// The character in column 0 of row 1 after these slots.
 fn first_of_row_1<R: Receiver + Drop>(mut receiver: R, slots: &[[u8; 42]]) -> u32 {
     receive(&mut receiver, slots);
     cell_word(&render(receiver.memory()).cells[1][0]) & 0x7f
 }
 
-// An eager receiver takes the row, a careful one misses it each time. A choice of true misses it: of the two cycles one has to take it.
+// An eager receiver takes the row, a careful one misses it each time. A choice of true misses it, so in one of the two cycles it has to be false.
 #[test]
 fn a_row_too_early_for_some(rt: HostRuntime) -> Result<(), Fail> {
     let slots = slots(rt.alloc())?;

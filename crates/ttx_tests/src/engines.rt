@@ -15,7 +15,7 @@ static FAILURES: [(Option<u64>, Option<Failure>, usize); 4] = [
     (Some(1), None, 0),
 ];
 
-// What is answered of the worked cycle, and how many bytes of the room are written.
+// What is returned for the worked cycle, and how many bytes of the room are written.
 fn certified(
     alloc: Global,
     files: [&[u8]; 2],

@@ -11,7 +11,7 @@ use ttx_source::{SourceError, SourceFault};
 // The first bytes of the header of page 100 with subcode 3F7F, which no page has.
 static ANY_SUBPAGE: [u8; 10] = [0x02, 0x15, 0x15, 0x15, 0xea, 0x2f, 0xea, 0x5e, 0x15, 0x02];
 
-// What `extract` says of the worked cycle with this slot in the place of one of it: the text, or the refusal.
+// The result of `extract` for the worked cycle with this slot in place of one of its own: the text, or the refusal.
 fn told(alloc: Global, place: usize, slot: [u8; 42]) -> Result<String, AllocError> {
     let mut slots = slots(alloc)?;
     if place < slots.len() {

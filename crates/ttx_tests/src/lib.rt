@@ -1,4 +1,4 @@
-//! The tests of all crates: worked examples, vectors from outside, and devices that fail. They stand here and not in their
+//! The tests of all crates: worked examples, vectors from outside, and devices that fail. They are here and not in their
 //! crates, since a crate with tests is proved twice.
 #![tactic(auto)]
 

@@ -56,8 +56,8 @@ fn torn(alloc: Global, at: usize) -> Result<Vec<[u8; 42]>, AllocError> {
     Ok(slots)
 }
 
-// In which byte row 1 is torn in the first and in the second cycle, and what is shown after both: a character is stored where it came right
-// once, and where it never did the former one stays.
+// In which byte row 1 is torn in the first and in the second cycle, and what is shown after both: a character is stored if it came right
+// once, and the former one stays if it never did.
 static TORN: [(usize, usize, [u32; 2]); 4] = [
     (2, 3, [SPACE, SPACE]),
     (3, 2, [SPACE, SPACE]),
@@ -88,7 +88,7 @@ fn letters() -> [u8; 42] {
     slot
 }
 
-// Page 100, another slot, and a row 1 of letters after it: it is the other page's where the slot is its header, and where that is lost it is
+// Page 100, another slot, and a row 1 of letters after it: it is the other page's if the slot is its header, and if that is lost, it is
 // taken for the page's own.
 fn after_second(second: [u8; 42]) -> [[u8; 42]; 8] {
     let empty = [0; 42];
@@ -129,7 +129,7 @@ fn a_lost_header_leaves_the_row_of_another_page(rt: HostRuntime) {
     assert!(rt; is_shown_by_all(&after_second([0; 42]), [AN_A, AN_A]));
 }
 
-// A receiver that surely clears does so at its first header alone, so the letters stay.
+// A receiver that surely clears does so only at its first header, so the letters stay.
 #[test]
 fn a_receiver_that_clears_keeps_the_row(rt: HostRuntime) {
     let header = beginning(&HEADER_101);

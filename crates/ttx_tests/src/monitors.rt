@@ -1,4 +1,4 @@
-//! What a monitor says of the slots of the worked cycle, as they are received.
+//! The verdicts of a monitor on the slots of the worked cycle, as they are received.
 
 use crate::base::{self, SERVICE, certificate_text};
 use std::alloc::{AllocError, Global};
@@ -92,7 +92,7 @@ fn a_feed_from_slot_10_on(rt: HostRuntime) -> Result<(), Fail> {
 }
 
 // A slot of the feed, a byte of it and the bits in which it is received wrong, or all bytes received as 0; the repeat count; how many bytes
-// follow the last slot; and what is told of 54 slots from slot 10 of the cycle on. Slot 0 of the feed is row 8, slot 18 is the page
+// follow the last slot; and the report on 54 slots from slot 10 of the cycle on. Slot 0 of the feed is row 8, slot 18 is the page
 // header, and slot 19 is empty.
 #[rattlefmt::skip]
 static FEEDS: [(usize, usize, u8, bool, u8, usize, &str); 11] = [
@@ -109,7 +109,7 @@ static FEEDS: [(usize, usize, u8, bool, u8, usize, &str); 11] = [
     (30, 7, 0x03, false, 8, 0, "no slot 30 byte 7 start 10\n"),
 ];
 
-// The bytes of the feed, with this slot received otherwise.
+// The bytes of the feed, with this slot received differently.
 fn feed(
     alloc: Global,
     cycle: &Cycle,
@@ -132,7 +132,7 @@ fn feed(
     Ok(bytes)
 }
 
-// A certificate of this repeat count, of which a monitor takes no more.
+// A certificate with this repeat count; a monitor uses nothing else of it.
 fn repeated(alloc: Global, repeat: u8) -> Option<Certificate> {
     let Ok(text) = format!(in alloc;
         "ttx certificate 1\nlines 2\nrepeat {repeat}\ndeadline 27\n100/0000 head 0\n"

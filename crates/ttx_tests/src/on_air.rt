@@ -4,6 +4,7 @@ use crate::base::{self, HEADER, SERVICE, TIME_FILLING, beginning, certificate_te
 use std::alloc::Global;
 use std::test::Fail;
 use ttx_certify::Verdict;
+use ttx_change::{WholeChange, judge_whole};
 use ttx_cycle::Cycle;
 use ttx_late::LateVerdict;
 use ttx_playout::{ChangeFault, Edition, LateChange, OnAir, StartFault};
@@ -15,14 +16,14 @@ use ttx_witness::{Reason, read_certificate};
 static CLEARING: &[u8] =
     b"ttx certificate 2\nclass clearing\nlines 2\nrepeat 1\ndeadline 2\n100/0000 head 0\n";
 
-// What is answered where an edition is to follow: it does, or in how many slots it may.
+// What is returned if an edition is to follow: it does, or in how many slots it may.
 enum Answer {
     Follows,
     TooSoon(u32),
     Amid(u32),
 }
 
-// How many slots go out, and what is answered then where the worked edition is to follow.
+// How many slots go out, and what is returned then if the worked edition is to follow.
 static CHANGES: [(usize, Answer); 6] = [
     (0, Answer::Follows),
     (0, Answer::TooSoon(54)),
@@ -56,7 +57,7 @@ fn edition(alloc: Global, deadline: u32) -> Option<Edition> {
     }
 }
 
-// Whether it is answered so that the worked edition is to follow.
+// Whether this is the answer if the worked edition is to follow.
 fn is_answered(alloc: Global, on_air: &mut OnAir, wanted: &Answer) -> bool {
     let Some(next) = edition(alloc, 27) else {
         return false;
@@ -90,7 +91,7 @@ fn editions_follow_one_another(rt: HostRuntime) -> Result<(), Fail> {
     Ok(())
 }
 
-// Whether a change to the edition is judged so, by its deadline: 27 is that of the one on the air.
+// Whether this is the verdict on a change to the edition, by its deadline: 27 is that of the one on the air.
 fn is_judged(alloc: Global, on_air: &OnAir, next: &Edition, gap: usize) -> bool {
     let is_same = next.certificate.deadline() == 27;
     let is_spliced = match on_air.judge(alloc, next) {
@@ -104,7 +105,20 @@ fn is_judged(alloc: Global, on_air: &OnAir, next: &Edition, gap: usize) -> bool 
         Ok(LateChange::No(SpliceReason::Numbers)) => !is_same,
         _ => false,
     };
-    is_spliced && is_late
+    is_spliced && is_late && is_judged_whole(alloc, on_air, next, gap)
+}
+
+// The same for receivers that show a page only where it ends; the cycle leaves nothing open.
+fn is_judged_whole(alloc: Global, on_air: &OnAir, next: &Edition, gap: usize) -> bool {
+    let is_same = next.certificate.deadline() == 27;
+    match judge_whole(alloc, on_air, next, gap) {
+        Ok(WholeChange::Yes) => is_same && gap == 27,
+        Ok(WholeChange::No(LateChange::TooFar { gap: greatest })) => is_same
+            && gap == 26
+            && greatest == 27,
+        Ok(WholeChange::No(LateChange::No(SpliceReason::Numbers))) => !is_same,
+        _ => false,
+    }
 }
 
 // Whether the edition takes over where its change is accepted.
@@ -142,7 +156,7 @@ fn changes_are_judged(rt: HostRuntime) -> Result<(), Fail> {
     Ok(())
 }
 
-// Whether the certifiers for receivers that lose rows say of the edition what `certify` says: Yes exactly at 27 fields.
+// Whether the certifiers for receivers that lose rows give the verdict of `certify` on the edition: yes exactly at 27 fields.
 fn is_certified(alloc: Global, edition: &Edition) -> bool {
     let (cycle, service, certificate) = (&edition.cycle, &edition.service, &edition.certificate);
     let is_on_time = certificate.deadline() == 27;

@@ -1,5 +1,5 @@
-//! Packet files of each length, devices that fail, and a writer that counts above a buffer. What the commands do where any call of
-//! `read` or `write` fails, tests/refused_calls.py shows.
+//! Packet files of each length, devices that fail, and a counting writer above a buffer. tests/refused_calls.py shows what the commands
+//! do if any call of `read` or `write` fails.
 
 use crate::base;
 use std::alloc::Global;
@@ -8,7 +8,7 @@ use std::test::Fail;
 use ttx_cycle::faulty::{Failure, FaultyReader, FaultyWriter};
 use ttx_cycle::{Counted, Cycle, CycleFault, read_cycle, write_cycle};
 
-// How a writer of five bytes a call fails, or doesn't, at which call, and how many bytes of the worked cycle have gone out then.
+// How a writer of five bytes a call fails, if it does, at which call, and how many bytes of the worked cycle have gone out then.
 static WRITINGS: [(Option<Failure>, u64, usize); 3] = [
     (Some(Failure::Error { at: 4 }), 4, 15),
     (Some(Failure::Nothing { at: 1 }), 1, 0),
@@ -40,7 +40,7 @@ fn written_in_pieces(rt: HostRuntime) -> Result<(), Fail> {
     Ok(())
 }
 
-// Whether bytes of the worked cycle are read as its whole slots, or refused for their rest or for want of one.
+// Whether bytes of the worked cycle are read as its whole slots, or refused because bytes are left over or there is no slot.
 fn is_read(alloc: Global, bytes: &[u8], piece: usize) -> bool {
     let mut reader = Counted::new(FaultyReader::new(bytes, piece, None));
     match read_cycle(alloc, &mut reader) {
@@ -67,7 +67,7 @@ fn read_in_pieces(rt: HostRuntime) -> Result<(), Fail> {
     Ok(())
 }
 
-// Whether a packet file of two slots is refused where its second slot isn't read.
+// Whether a packet file of two slots is refused if its second slot cannot be read.
 fn is_refused(alloc: Global) -> bool {
     let mut reader = Counted::new(FaultyReader::new(&[0x20; 84], 42, Some(2)));
     matches!(read_cycle(alloc, &mut reader), Err(CycleFault::Read)) && reader.calls() == 2

@@ -1,10 +1,10 @@
-//! Slots by their bytes: which are those of a packet that one wrong bit in each byte leaves what it is. Their kinds the case
-//! `inspect-each-kind` shows.
+//! Slots by their bytes: which of them stay the same packet with one wrong bit in each byte. The case `inspect-each-kind`
+//! has their kinds.
 
 use crate::base::filled;
 use ttx_packet::clean;
 
-// The bytes that slots begin with and the one that fills the rest, and whether they are clean.
+// The bytes that a slot begins with, the one that fills the rest, and whether the slot is clean.
 #[rattlefmt::skip]
 static SLOTS: [([u8; 10], u8, bool); 11] = [
     ([0x00; 10], 0x00, true),

@@ -9,7 +9,7 @@ const SENT: [u8; 42] = [
     0x5e, 0xea, 0xea, 0xea, 0x2f, 0xea, 0x5e, 0x2f, 0x00, 0x00,
 ];
 
-// Another byte at a place, and whether row 24 is shown. In the link of page FF and in the last byte some bits aren't read.
+// Another byte at a place, and whether row 24 is shown. In the link of page FF and in the last byte some bits are not read.
 static READ: [(usize, u8, bool); 5] = [
     (39, 0x2f, false),
     (39, 0xea, true),

@@ -16,7 +16,7 @@ static NEEDED: [(u16, [usize; 2], bool, u8, bool); 8] = [
     (0x40, [24, 24], true, 24, false),
 ];
 
-// Blank rows but for double height at the beginning of two.
+// Blank rows, except double height at the beginning of two.
 fn rows(tall: [usize; 2]) -> [[u8; 40]; 24] {
     let mut rows = [[b' '; 40]; 24];
     for number in tall {
@@ -35,7 +35,7 @@ fn page(control: u16, tall: [usize; 2], show24: bool) -> Option<Page> {
     }
 }
 
-// Control bits, where C7 is 8 and C10 is 40, and whether the head is needed. The links always are.
+// Control bits, in which C7 is 8 and C10 is 40, and whether the head is needed. The links always are.
 static HEADS: [(u16, bool); 4] = [(0x80, true), (0x08, false), (0x40, true), (0x48, false)];
 
 fn is_needed(page: &Page, number: u8) -> bool {

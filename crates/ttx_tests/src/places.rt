@@ -1,4 +1,4 @@
-//! Where in a TOML text a value stands.
+//! Places of values in a TOML text.
 
 use std::alloc::Global;
 use std::test::Fail;
@@ -7,7 +7,7 @@ use ttx_places::{place_of, position_of};
 const TEXT: &str =
     "lines = 2\n\"ü\" = [1, \"b\"]\n[[page]]\n# 100\n[[page]]\nnumber = \"200\"\n[page.rows]\n  1 = \"A\"\n";
 
-// The line and the column of the value at a path, both from 1, or 0 where there is none.
+// The line and the column of the value at a path, both from 1, or 0 if there is none.
 fn position(alloc: Global, path: &str) -> Option<(usize, usize)> {
     match place_of(alloc, TEXT, path) {
         Ok(Some(place)) => {

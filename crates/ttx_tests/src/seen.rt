@@ -1,5 +1,5 @@
 //! What is certified is seen: worked cycles, received from each tuning slot by each kind of receiver, out of bad memories and
-//! with errors within the error rule. Spliced ones tests/spliced.py shows.
+//! with errors within the error rule. tests/spliced.py has spliced ones.
 
 use crate::base::{self, beginning};
 use std::alloc::Global;
@@ -15,7 +15,7 @@ use ttx_render::{render, same_but_clock};
 use ttx_witness::find;
 
 // Two slots of the worked cycle, each with the bytes that it begins with instead, by how many slots it is turned then, how row 5 of the
-// page begins, whether one of two transmissions is right or each, and the least deadline. There is no slot 28.
+// page begins, whether one of two transmissions is right or each, and the least deadline. There is no slot 28, so nothing is changed there.
 #[rattlefmt::skip]
 static CYCLES: [(usize, [u8; 10], usize, [u8; 10], usize, u8, bool, u32); 7] = [
     (28, [0; 10], 28, [0; 10], 0, 0x20, false, 27),
@@ -52,7 +52,7 @@ pub(crate) fn page(first_of_row_5: u8) -> Option<Page> {
     }
 }
 
-// Makes a slot begin with other bytes, or be empty where they are zero, where there is such a slot.
+// Makes a slot begin with other bytes, or makes it empty if they are zero, if there is such a slot.
 fn edit(slots: &mut Vec<[u8; 42]>, at: usize, first: &[u8; 10]) {
     if let Some(slot) = slots.get_mut(at) {
         *slot = if *first == [0; 10] {
@@ -98,7 +98,7 @@ fn text_in(slot: &[u8; 42]) -> (usize, usize) {
     }
 }
 
-// One wrong bit in each byte, but for text where it is to be right; the same byte all over a clock and behind the address of a
+// One wrong bit in each byte, except text that has to be right; the same byte all over a clock and behind the address of a
 // packet 8/30.
 fn with_errors(sent: &[u8; 42], text_is_right: bool, wild: u8) -> [u8; 42] {
     let mut bytes = *sent;
@@ -119,7 +119,7 @@ fn with_errors(sent: &[u8; 42], text_is_right: bool, wild: u8) -> [u8; 42] {
     bytes
 }
 
-// What is received of slot `at` of the stream. Where one of two transmissions is right, it is that of every other period. Clocks and
+// What is received of slot `at` of the stream. If one of two transmissions is right, it is that of every other period. Clocks and
 // packets 8/30 are other bytes each time, of right and of wrong parity.
 fn received(sent: &Sent, at: u32) -> [u8; 42] {
     let slots = sent.cycle.slots();
@@ -178,7 +178,7 @@ fn by_scripted(sent: &Sent, tuning: u16, storing: bool) -> bool {
     )
 }
 
-// Whether each kind of receiver shows the page, out of a memory that stores or doesn't.
+// Whether each kind of receiver shows the page, from a memory that is storing or not.
 fn are_served(sent: &Sent, tuning: u16, storing: bool) -> bool {
     by_eager(sent, tuning, storing)
         && by_careful(sent, tuning, storing)

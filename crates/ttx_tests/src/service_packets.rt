@@ -1,5 +1,5 @@
-//! A packet 8/30 format 1 by its bytes. What is read of it, and its faults, the case `inspect-each-kind` shows, and its bytes as they
-//! are sent `plan-info`.
+//! A packet 8/30 format 1 by its bytes. The case `inspect-each-kind` has what is read of it, and its faults; `plan-info` has its bytes
+//! as they are sent.
 
 use ttx_info::{Info, read_info};
 use ttx_links::Target;
@@ -11,7 +11,7 @@ pub(crate) const SENT: [u8; 42] = [
     0x20, 0x20, 0x20, 0x20, 0x20, 0x20, 0x20, 0x20, 0x20, 0x20,
 ];
 
-// Bytes with other bits that aren't read.
+// Bytes with other values in bits that are not read.
 static IGNORED: [(usize, u8); 4] = [(11, 0x04), (12, 0xf5), (18, 0xff), (0, 0x00)];
 
 fn info() -> Option<Info> {
@@ -20,7 +20,7 @@ fn info() -> Option<Info> {
     Info::new(0, initial, [0x12, 0x34], 2, false, 46_000, 123_045, text)
 }
 
-// What is read where byte `at` is another.
+// What is read if byte `at` is another.
 fn read_with(at: usize, byte: u8) -> Option<Info> {
     let mut bytes = SENT;
     if at < 42 {

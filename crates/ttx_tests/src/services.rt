@@ -1,5 +1,5 @@
-//! The text of a fault of a service definition. Which definitions are accepted, and what becomes of them, the cases of the built
-//! program show, and which are refused tests/refused_texts.py.
+//! The text of a fault of a service definition. The cases of the built program show which definitions are accepted, and what they give;
+//! tests/refused_texts.py shows which are refused.
 
 use std::test::Fail;
 use ttx_source::{SourceError, SourceFault};

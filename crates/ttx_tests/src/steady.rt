@@ -10,7 +10,7 @@ use ttx_header::PageId;
 use ttx_late::gap_after;
 use ttx_witness::{Reason, page_fault};
 
-// A slot, the byte of it that is another one, and the number and the slot of the reason: subpage 1, C4, no C11, an A in the header, an A
+// A slot, the byte of it that is changed, and the number and the slot of the reason: subpage 1, C4, no C11, an A in the header, an A
 // in row 5, an A in row 20, a link that needs correction.
 #[rattlefmt::skip]
 static CHANGES: [(usize, usize, u8, (u32, u32)); 7] = [

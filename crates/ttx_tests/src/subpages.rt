@@ -1,4 +1,4 @@
-//! Viewers who key a page number and no subcode: cycles of two subpages of which the header alone is shown, with one line in a field.
+//! Viewers who key a page number and no subcode: cycles of two subpages of which only the header is shown, with one line in a field.
 
 use std::alloc::{AllocError, Global};
 use std::test::Fail;
@@ -132,7 +132,7 @@ fn stays_and_intervals(rt: HostRuntime) -> Result<(), Fail> {
         panic!(rt; "there is no service");
     };
     let mut slots = turns(rt.alloc())?;
-    // 100/0002 in the first turn gives way to empty slots, so 100/0001 stays eight slots, and four.
+    // 100/0002 in the first turn is replaced by empty slots, so 100/0001 stays eight slots, and four.
     for at in 4..8 {
         if let Some(held) = slots.get_mut(at) {
             *held = [0; 42];
@@ -205,7 +205,7 @@ fn the_first_lack(rt: HostRuntime) -> Result<(), Fail> {
     Ok(())
 }
 
-// Slots that give way to empty slots, the most slots after which each subpage comes again, and the line for `wait`: one line in a field, so
+// Slots that are replaced by empty slots, the most slots after which each subpage comes again, and the line for `wait`: one line in a field, so
 // five slots in a tenth of a second.
 static WAITS: [(usize, usize, Option<usize>, &str); 4] = [
     (

@@ -1,5 +1,5 @@
-//! Two readings of a file that has changed between them: what is said of the second one, and where none is believed. What is said of
-//! two equal readings the cases of `certify` show.
+//! Two readings of a file that has changed between them: the verdict on the second one, or that they do not go together. The cases of
+//! `certify` have the verdicts on two equal readings.
 
 use crate::base::{self, SERVICE, TIME_FILLING, beginning, certificate_text};
 use crate::seen::page;
@@ -11,7 +11,7 @@ use ttx_cycle::{Counted, CycleFault};
 use ttx_page::Class;
 use ttx_witness::{Certificate, Reason, read_certificate};
 
-// What is answered of two readings: a line, or a fault of a cycle and no line.
+// What is returned for two readings: a line, or a fault of a cycle and no line.
 enum Answer {
     Yes,
     Unsteady,
@@ -58,7 +58,7 @@ static READINGS: [(usize, usize, usize, Edit, u32, Answer); 21] = [
     (0, 28, 29, Edit::Nothing, 27, Answer::LateLinks),
     (0, 28, 29, Edit::Nothing, 26, Answer::LateRow22),
     (0, 28, 28, Edit::Nothing, 26, Answer::LateRow23),
-    // no first reading makes a Yes of a cycle that isn't accepted
+    // no first reading gives a yes for a cycle that is not accepted
     (0, 28, 28, Edit::Byte(0, 5, 0xd0), 27, Answer::Erased),
     (27, 28, 28, Edit::Byte(0, 5, 0xd0), 27, Answer::Erased),
     (0, 27, 28, Edit::Byte(0, 5, 0xd0), 27, Answer::Unsteady),
@@ -108,7 +108,7 @@ struct Files<'a> {
     certificate: &'a [u8],
 }
 
-// What is answered of two readings with the worked service, and how many bytes of the room are written.
+// What is returned for two readings with the worked service, and how many bytes of the room are written.
 fn passed(
     alloc: Global,
     files: &Files<'_>,
@@ -148,7 +148,7 @@ fn line_of(answer: &Answer) -> &'static [u8] {
     }
 }
 
-// Whether the value that is answered is that of the line.
+// Whether the returned value is that of the line.
 fn is_value(value: &Result<Verdict, FilesFault>, answer: &Answer) -> bool {
     match value {
         Ok(Verdict::Yes) => matches!(answer, Answer::Yes),
@@ -160,7 +160,7 @@ fn is_value(value: &Result<Verdict, FilesFault>, answer: &Answer) -> bool {
     }
 }
 
-// Whether these readings are answered so, and its line is written.
+// Whether these readings give this answer, and its line is written.
 fn is_answered(alloc: Global, files: &Files<'_>, answer: &Answer) -> bool {
     let mut room = [0; 100];
     let (value, count) = passed(alloc, files, &mut room);
@@ -218,17 +218,17 @@ fn second_files(rt: HostRuntime) -> Result<(), Fail> {
     Ok(())
 }
 
-// How many slots of a time-filling header the first list has and how many the second, and whether the verdict is Yes.
+// How many slots of a time-filling header the first list has and how many the second, and whether the verdict is yes.
 static LISTS: [(u32, u32, bool); 4] = [
     (65_536, 65_536, true),
-    // the last slot is refused, and the walk stands as before it
+    // the last slot is refused, and the walk is as before it
     (65_537, 65_536, true),
     (65_536, 65_537, false),
     (28, 0, false),
 ];
 
 // How many slots of the worked cycle the second list has after an empty first one, and whether they are accepted. Where two lists
-// differ, what is accepted may be called unsteady.
+// differ, the verdict on an accepted one may be `Unsteady`.
 static AFTER_NOTHING: [(u32, bool); 4] = [(28, true), (56, true), (1, false), (0, false)];
 
 // Gives the first list to a walk: whether each slot above 65,536 is refused, and no other.
@@ -243,7 +243,7 @@ fn feeds(walk: &mut Walk<'_>, count: u32) -> bool {
     true
 }
 
-// The verdict where the second list has so many slots, these again and again.
+// The verdict if the second list has so many slots, these again and again.
 fn finished(walk: Walk<'_>, slots: &[[u8; 42]], count: u32) -> Verdict {
     let mut second = walk.begin_second();
     for at in 0..count {

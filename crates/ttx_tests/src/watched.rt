@@ -16,7 +16,7 @@ fn page_100() -> Selection {
     }
 }
 
-// A memory of spaces, but for an X at the begin of row 1.
+// A memory of spaces, except an X at the beginning of row 1.
 fn holding_an_x(fresh: bool) -> PageMemory {
     let mut rows = [[0x20; 40]; 25];
     rows[1][0] = 0x58;

@@ -126,6 +126,7 @@ module _ (a b c : List ℕ) (named : Option ℕ) (d : List ℕ) (old new : Optio
           all = ended_so rest h.tail h.feed h.ended;
           within = h.received;
           seen = h.seen;
+          shown = h.shown;
         },
       )
 

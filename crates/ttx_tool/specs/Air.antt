@@ -2,7 +2,7 @@
 --
 --   fields_in, name_in      how many fields are sent, and how the clock is named
 --   Asks                    a broadcast as the words ask for it
---   air_text, air_status    what is said of its fault, and the status after it
+--   air_text, air_status    the line of its fault, and the status after it
 use Rattle.std.specs.Prelude.{◌≡◌, ℕ, ◌-◌, ◌^◌, pos, ◌*ℤ◌, List, ◌++◌, codes, string_bytes, Option, Some, None}
 use Rattle.ttx_arguments.specs.declared.orders.AirOrder.{AirOrder}
 use Rattle.ttx_arguments.specs.declared.orders.Clock.{Clock}

@@ -1,6 +1,6 @@
 -- What `certify` answers and writes for a packet file, the text of a service and that of a certificate.
 --
---   CertifiesFor            what was written at each answer, for receivers that show a page at once, or also for those that show it late
+--   CertifiesFor            what was written for each answer, for receivers that show a page at once, or also for those that show it late
 use Rattle.std.specs.Prelude.{ℕ, Bool, true, false, List, Option, IfSome, Result}
 use Rattle.ttx_certify.specs.CertifyingFiles.{CertifiesFiles}
 use Rattle.ttx_late.specs.CertifyingLate.{CertifiesFilesLate}

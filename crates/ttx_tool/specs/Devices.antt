@@ -1,8 +1,8 @@
 -- Faults of commands, and the devices that they are of.
 --
---   is_tool_write           the fault of a write, which alone leaves a writer otherwise than it was
+--   is_tool_write           the fault of a write: after any other a writer is unchanged
 --   failed_in, place_of     the place of which a fault says that its device failed, and that of the file which it is of
---   failed_at               the same of an answer
+--   failed_at               the same for an answer
 --   IsFaultOf               a fault is of a file of one of these devices; that of a device is of the first that failed
 --   Fails, Reads            a command's faults are of its devices; those of inputs, which are as they should be if all are read
 use Rattle.std.specs.Prelude.{Bool, false, List, map, ⊤, Option, Some, None, Result, Ok, Err}

@@ -1,7 +1,7 @@
 -- What is written of bytes that are no packets of 42 bytes, behind the lines of a command.
 --
 --   diagnosed_text, diagnosed_status        a line and the status 1 if they are not recognised as such packets; nothing otherwise
---   Diagnoses               what was written at each answer
+--   Diagnoses               what was written for each answer
 use Rattle.std.specs.Prelude.{◌≡◌, ℕ, ◌<◌, List, [], length, take, Option, Some, None, Result, Ok, Err}
 use Rattle.std.specs.Io.KnownBytes.{Appends, Keeps}
 use Rattle.ttx_files.specs.declared.faults.FilesFault.TheVariants.{Write, NoMemory}

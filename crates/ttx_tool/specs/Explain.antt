@@ -15,7 +15,7 @@ abbrev pub ExplainsTo : Bool → List ℕ → Option (List ℕ) → Option (List
 ExplainsTo true text old new errors_old errors_new result = Reports text 0 old new result × (errors_new ≡ errors_old)
 ExplainsTo false text old new errors_old errors_new result = Reports text 2 errors_old errors_new result × (new ≡ old)
 
--- what is said of the word by the table goes out; or there was no memory, and nothing does
+-- the explanation of the word goes out; or there was no memory, and nothing does
 abbrev pub Explains : List Entry → List ℕ → Option (List ℕ) → Option (List ℕ) → Option (List ℕ) → Option (List ℕ) → Result ℕ ToolFault → Type 0
 Explains table word old new errors_old errors_new result =
     ((known : Bool) × (text : List ℕ) × IsExplained table word known text × ExplainsTo known text old new errors_old errors_new result)

@@ -3,10 +3,10 @@
 --   extracted_line          the line that says how many pages there are
 --   IsExtracted, IsExtracting       the text of what slots send, and of a packet file, and its line
 --   IsExtractFault, IsNoExtract     why there is none
---   ExtractsText            what is answered for the bytes
+--   ExtractsText            what is returned for the bytes
 --   is_extraction_write                the fault of a write
---   ExtractsFile            what was written to the text's file and to the output, at each answer
---   FailsExtract            a fault of a device is answered only where that device was the first that failed
+--   ExtractsFile            what was written to the text's file and to the output, for each answer
+--   FailsExtract            a fault of a device is returned only if that device was the first that failed
 use Rattle.std.specs.Prelude.{◌≡◌, ℕ, Bool, false, List, [], ◌∷◌, ◌++◌, length, codes, string_bytes, ⊤, Option, None, Result, Ok, Err}
 use Rattle.std.specs.Fmt.{decimal}
 use Rattle.std.specs.Io.KnownBytes.{Keeps}
@@ -34,13 +34,13 @@ pub record IsExtracted (slots : List (List ℕ)) (lines : ℕ) (text line : List
   pub says : IsExtract slots lines service
   pub line_is : line ≡ extracted_line (length service.pages)
 
--- the same of a packet file
+-- the same for a packet file
 pub record IsExtracting (bytes : List ℕ) (lines : ℕ) (text line : List ℕ) : Type 0 where
   pub slots : List (List ℕ)
   pub cycle_is : IsPacketFile bytes slots
   pub told : IsExtracted slots lines text line
 
--- there is no text of the slots, or memory is wanting
+-- there is no text of the slots, or memory ran out
 abbrev pub IsExtractFault : List (List ℕ) → ℕ → ExtractionFault → Type 0
 IsExtractFault slots lines (Refused fault) = AnswersFault slots lines fault
 IsExtractFault slots lines (Tool (Files NoMemory)) = ⊤
@@ -57,7 +57,7 @@ abbrev pub ExtractsText : List ℕ → ℕ → Result (Filed ⊤) ExtractionFaul
 ExtractsText bytes lines (Ok told) = IsExtracting bytes lines told.file.items (string_bytes told.line)
 ExtractsText bytes lines (Err fault) = IsNoExtract bytes lines fault
 
--- Ok: the text and the line. A write fault: the first `written` bytes of both. Else nothing, and why there is no text.
+-- Ok: the text and the line. A write fault: the first `written` bytes of both. Otherwise nothing, and why there is no text.
 abbrev pub ExtractsFile : List ℕ → ℕ → Option (List ℕ) → Option (List ℕ) → Option (List ℕ) → Option (List ℕ) → Result ℕ ExtractionFault → Type 0
 ExtractsFile bytes lines file_old file_new old new (Ok status) =
     (status ≡ 0) × ((text line : List ℕ) × IsExtracting bytes lines text line × WritesBoth text line file_old file_new old new (Ok status))
@@ -70,7 +70,7 @@ abbrev pub is_extraction_write : ExtractionFault → Bool
 is_extraction_write (Tool fault) = is_tool_write fault
 is_extraction_write (Refused fault) = false
 
--- Of the faults of the tool there are those of the devices, and want of memory; a refusal is that of no device.
+-- The faults of the tool are those of the devices, and lack of memory; a refusal belongs to no device.
 abbrev pub FailsExtract : {T : Type 0} → List Device → Result T ExtractionFault → Type 0
 FailsExtract devices (Err (Tool (Files fault))) = IsFaultOf devices (Files fault)
 FailsExtract devices (Err (Tool _)) = ⊥

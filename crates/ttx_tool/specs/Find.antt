@@ -4,8 +4,8 @@
 --   WritesDeadline, TellsDeadline, TellsNo, TellsFound    what goes out where there is a deadline, and where there is none
 --   TellsVerdict            the same, whatever the verdict
 --   IsFoundAndTold, IsFinding    what is found of a cycle and a service, and of their texts, and what goes out
---   IsNoFinding, FindsText  why nothing is found; what is answered
---   FindsFiles              what was written to the certificate's file and to the output, at each answer
+--   IsNoFinding, FindsText  why nothing is found; what is returned
+--   FindsFiles              what was written to the certificate's file and to the output, for each answer
 use Rattle.std.specs.Prelude.{◌≡◌, ℕ, ◌≤◌, List, [], ◌∷◌, ◌++◌, length, codes, string_bytes, Option, Some, None, Result, Ok, Err}
 use Rattle.std.specs.Fmt.{decimal}
 use Rattle.std.specs.Io.KnownBytes.{Keeps}
@@ -48,7 +48,7 @@ pub record IsVerdictLine (slots : List (List ℕ)) (service : ServiceFields) (w 
   pub exact : IsVerdict slots (pages_of service) (certificate_at w) verdict
   pub same : line ≡ verdict_line w (length service.pages) verdict
 
--- nothing into the file, and the line of a No on the certificate
+-- nothing into the file, and the no line on the certificate
 abbrev pub TellsNo : List (List ℕ) → ServiceFields → CertificateFields → List ℕ → List ℕ → ℕ → Type 0
 TellsNo slots service w file line status = (file ≡ []) × ((reason : Reason) × IsVerdictLine slots service w (No reason) line) × (status ≡ 1)
 
@@ -69,7 +69,7 @@ pub record IsFoundAndTold (slots : List (List ℕ)) (service : ServiceFields) (r
   pub found : IsFoundFor slots (pages_of service) repeat service.lines class (certificate_at w) deadline
   pub told : TellsFound slots service w deadline file line status
 
--- the same of a packet file and the text of a service
+-- the same for a packet file and the text of a service
 pub record IsFinding (a b : List ℕ) (repeat : ℕ) (class : Class) (file line : List ℕ) (status : ℕ) : Type 0 where
   pub slots : List (List ℕ)
   pub service : ServiceFields
@@ -86,7 +86,7 @@ abbrev pub FindsText : List ℕ → List ℕ → ℕ → Class → Result (Filed
 FindsText a b repeat class (Ok told) = IsFinding a b repeat class told.file.items (string_bytes told.line) told.verdict
 FindsText a b repeat class (Err fault) = IsNoFinding a b fault
 
--- Ok: the bytes of the file and the line. A write fault: the first `written` bytes of both. Else nothing, and why nothing is found.
+-- Ok: the bytes of the file and the line. A write fault: the first `written` bytes of both. Otherwise nothing, and why nothing is found.
 abbrev pub FindsFiles : List ℕ → List ℕ → ℕ → Class → Option (List ℕ) → Option (List ℕ) → Option (List ℕ) → Option (List ℕ) → Result ℕ ToolFault →
     Type 0
 FindsFiles a b repeat class file_old file_new old new (Ok status) =

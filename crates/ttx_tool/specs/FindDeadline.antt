@@ -2,8 +2,8 @@
 --
 --   TellsRefused, TellsAsked        what goes out at a no, and at each verdict
 --   IsAskedAndTold, IsAsked         the certificate with the deadline that is asked for, of a cycle and a service, and of their texts
---   AsksText                what is answered for them
---   AsksFiles               what was written to the certificate's file and to the output, at each answer
+--   AsksText                what is returned for them
+--   AsksFiles               what was written to the certificate's file and to the output, for each answer
 use Rattle.std.specs.Prelude.{◌≡◌, ℕ, List, [], length, string_bytes, Option, Result, Ok, Err}
 use Rattle.std.specs.Io.KnownBytes.{Keeps}
 use Rattle.ttx_cycle.specs.Files.{IsPacketFile}
@@ -39,7 +39,7 @@ pub record IsAskedAndTold (slots : List (List ℕ)) (service : ServiceFields) (a
   pub found : IsFoundWith slots (pages_of service) service.lines asked w verdict
   pub told : TellsAsked w asked.deadline (length service.pages) verdict file line status
 
--- the same of a packet file and the text of a service
+-- the same for a packet file and the text of a service
 pub record IsAsked (a b : List ℕ) (asked : Asked) (file line : List ℕ) (status : ℕ) : Type 0 where
   pub slots : List (List ℕ)
   pub service : ServiceFields
@@ -51,7 +51,7 @@ abbrev pub AsksText : List ℕ → List ℕ → Asked → Result (Filed ℕ) Too
 AsksText a b asked (Ok told) = IsAsked a b asked told.file.items (string_bytes told.line) told.verdict
 AsksText a b asked (Err fault) = IsNoFinding a b fault
 
--- Ok: the bytes of the file and the line. A write fault: the first `written` bytes of both. Else nothing, and why nothing is found.
+-- Ok: the bytes of the file and the line. A write fault: the first `written` bytes of both. Otherwise nothing, and why nothing is found.
 abbrev pub AsksFiles : List ℕ → List ℕ → Asked → Option (List ℕ) → Option (List ℕ) → Option (List ℕ) → Option (List ℕ) → Result ℕ ToolFault →
     Type 0
 AsksFiles a b asked file_old file_new old new (Ok status) =

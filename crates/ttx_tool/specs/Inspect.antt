@@ -1,6 +1,6 @@
 -- What `inspect` writes for the bytes of a packet file.
 --
---   Inspects         what was written at each answer
+--   Inspects         what was written for each answer
 use Rattle.std.specs.Prelude.{ℕ, ◌<◌, List, length, take, Option, Result, Ok, Err}
 use Rattle.std.specs.Io.KnownBytes.{Appends, Keeps}
 use Rattle.ttx_cycle.specs.Files.{IsPacketFile}
@@ -10,7 +10,7 @@ use Rattle.ttx_tool.specs.Lines.{lines_from}
 use Rattle.ttx_tool.specs.declared.faults.ToolFault.{ToolFault}
 use Rattle.ttx_tool.specs.declared.faults.ToolFault.TheVariants.{Files}
 
--- Ok: the lines of the slots went out. A write fault: the first `written` bytes of them. Else nothing, and the file is refused as it is judged.
+-- Ok: the lines of the slots went out. A write fault: the first `written` bytes of them. Otherwise nothing, and the file is refused as it is judged.
 abbrev pub Inspects : {U : Type 0} → List ℕ → Option (List ℕ) → Option (List ℕ) → Result U ToolFault → Type 0
 Inspects bytes old new (Ok _) = (slots : List (List ℕ)) × IsPacketFile bytes slots × Appends old new (lines_from 0 slots)
 Inspects bytes old new (Err (Files (Write written))) =

@@ -13,12 +13,14 @@ pub mod Plan
 pub mod Promised
 pub mod SpreadPlans
 pub mod Preview
+pub mod PreviewAll
 pub mod Extract
 pub mod Find
 pub mod FindDeadline
 pub mod Refute
 pub mod UnlikeViews
 pub mod Replay
+pub mod ReplayPage
 pub mod Report
 pub mod Monitor
 pub mod MonitorReports
@@ -27,6 +29,7 @@ pub mod PlannedFiles
 pub mod PlanLaws
 pub mod Wait
 pub mod WaitNumbers
+pub mod WaitJson
 pub mod Send
 pub mod Beginnings
 pub mod Version

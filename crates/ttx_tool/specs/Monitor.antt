@@ -1,11 +1,11 @@
 -- What `monitor` writes for a packet file, the text of a service, that of a certificate, and a feed.
 --
 --   feed_status, row_status         0 for a yes, 1 for a no
---   IsTelling, TellsFeed    the text and the status for a feed of what the three files say, by rows or by bytes; what is answered for the feed
---   IsFaultOfFeed           a fault is that of a read of the feed, or want of memory
---   IsMonitored             the same of the four files
---   IsNotMonitored, MonitorsText    why there is no verdict; what is answered for the four files
---   Monitors                what was written at each answer
+--   IsTelling, TellsFeed    the text and the status for a feed of what the three files say, by rows or by bytes; what is returned for the feed
+--   IsFaultOfFeed           a fault is that of a read of the feed, or lack of memory
+--   IsMonitored             the same for the four files
+--   IsNotMonitored, MonitorsText    why there is no verdict; what is returned for the four files
+--   Monitors                what was written for each answer
 --   IsWellReceived, IsWellReceivedByRows    the feed is a reception within the error rule, from a slot of the cycle on, and who sees each page
 --   MeansReceived           what a yes means
 use Rattle.std.specs.Prelude.{◌≡◌, ◌⊎◌, ℕ, zero, ◌-◌, ◌^◌, ◌<◌, ◌≤◌, Bool, true, false, List, ◌++◌, length, take, string_bytes, ⊤, Option, Result, Ok, Err}
@@ -21,7 +21,7 @@ use Rattle.ttx_monitor.specs.Laws.{IsSeenIn}
 use Rattle.ttx_monitor.specs.Watching.{watched, AllReceived}
 use Rattle.ttx_monitor.specs.declared.verdict.FeedVerdict.{FeedVerdict}
 use Rattle.ttx_monitor.specs.declared.verdict.FeedVerdict.TheVariants.{Unlike, Yes, No, Shifted}
-use Rattle.ttx_row_monitor.specs.Laws.{AllReceivedByRows, IsSeenByRowsIn}
+use Rattle.ttx_row_monitor.specs.Laws.{AllReceivedByRows, IsSeenByRowsIn, IsShownByRowsIn}
 use Rattle.ttx_row_monitor.specs.RowLines as rows
 use Rattle.ttx_row_monitor.specs.declared.verdict.RowVerdict.{RowVerdict}
 use Rattle.ttx_row_monitor.specs.declared.verdict.RowVerdict.TheVariants as row
@@ -82,7 +82,7 @@ abbrev pub MonitorsText : Bool → List ℕ → List ℕ → List ℕ → Option
 MonitorsText by_rows a b c named feed (Ok told) = IsMonitored by_rows a b c named feed (string_bytes told.line) told.verdict
 MonitorsText by_rows a b c named feed (Err fault) = IsNotMonitored a b c fault
 
--- Ok: the text went out. A write fault: its first `written` bytes. Else nothing, and why there is no verdict.
+-- Ok: the text went out. A write fault: its first `written` bytes. Otherwise nothing, and why there is no verdict.
 abbrev pub Monitors : Bool → List ℕ → List ℕ → List ℕ → Option ℕ → List ℕ → Option (List ℕ) → Option (List ℕ) → Result ℕ ToolFault → Type 0
 Monitors by_rows a b c named feed old new (Ok status) =
     (text : List ℕ) × IsMonitored by_rows a b c named feed text status × Appends old new text
@@ -108,7 +108,7 @@ pub record IsWellReceived (a b c feed : List ℕ) (start : ℕ) : Type 0 where
   pub seen : Accepts slots (pages_of service) (certificate_at w) → limit (certificate_at w) ≤ length received →
       IsSeenIn (watched slots (pages_of service) (certificate_at w).repeat start) received (certificate_at w)
 
--- the same by rows, for receivers that refuse rows
+-- the same by rows, for receivers that refuse rows, and for those of them that show pages late
 pub record IsWellReceivedByRows (a b c feed : List ℕ) (start : ℕ) : Type 0 where
   pub slots : List (List ℕ)
   pub service : ServiceFields
@@ -123,6 +123,8 @@ pub record IsWellReceivedByRows (a b c feed : List ℕ) (start : ℕ) : Type 0 w
   pub within : AllReceivedByRows (watched slots (pages_of service) (certificate_at w).repeat start) received
   pub seen : Accepts slots (pages_of service) (certificate_at w) → limit (certificate_at w) ≤ length received →
       IsSeenByRowsIn (watched slots (pages_of service) (certificate_at w).repeat start) received (certificate_at w)
+  pub shown : Accepts slots (pages_of service) (certificate_at w) →
+      IsShownByRowsIn (watched slots (pages_of service) (certificate_at w).repeat start) received (certificate_at w)
 
 -- the status 0 goes with a line that names the start
 abbrev pub MeansReceived : Bool → List ℕ → List ℕ → List ℕ → List ℕ → Option (List ℕ) → Option (List ℕ) → Result ℕ ToolFault → Type 0

@@ -3,7 +3,7 @@
 --   report_status           0 for a yes, 1 for a no
 --   IsReportedAs            the answer is that of a feed's report
 --   IsRefusedWith           the answer is a refusal of one of the three files
---   MonitorsLines           what was written at each answer
+--   MonitorsLines           what was written for each answer
 --   MeansReported           what a yes means
 use Rattle.std.specs.Prelude.{◌≡◌, ◌⊎◌, ℕ, zero, List, ◌++◌, ⊤, Option, Some, None, Result, Ok, Err}
 use Rattle.std.specs.Io.KnownBytes.{Appends, Keeps}

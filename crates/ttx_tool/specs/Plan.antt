@@ -3,7 +3,7 @@
 --   IsNoText                why a text is that of no service
 --   IsPlan, HasNoPlan, IsNoPlan, PlansText      the slots that carry the service of a text
 --   planned_line            the line that says how many slots there are
---   Plans                   what was written to the packet file and to the output, at each answer
+--   Plans                   what was written to the packet file and to the output, for each answer
 use Rattle.std.specs.Prelude.{◌≡◌, ℕ, ◌<◌, ◌≤◌, Bool, List, [], ◌∷◌, ◌++◌, length, codes, ⊤, Option, Result, Ok, Err}
 use Rattle.std.specs.Fmt.{decimal}
 use Rattle.std.specs.Io.KnownBytes.{Keeps}
@@ -56,7 +56,7 @@ abbrev pub PlansText : List ℕ → Bool → Class → Result CycleValue ToolFau
 PlansText bytes late class (Ok cycle) = IsPlan bytes late class (slots_of cycle)
 PlansText bytes late class (Err fault) = IsNoPlan bytes late class fault
 
--- Ok: the packet file of a plan and the line. A write fault: the first `written` bytes of both. Else nothing, and why there is no plan.
+-- Ok: the packet file of a plan and the line. A write fault: the first `written` bytes of both. Otherwise nothing, and why there is no plan.
 abbrev pub Plans : List ℕ → Bool → Class → Option (List ℕ) → Option (List ℕ) → Option (List ℕ) → Option (List ℕ) → Result ℕ ToolFault → Type 0
 Plans bytes late class file_old file_new old new (Ok status) =
     (status ≡ 0)

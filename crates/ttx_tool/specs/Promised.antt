@@ -1,9 +1,9 @@
 -- The text of a service with promises, alone and with a packet file.
 --
 --   IsPromisedText          the service and the promises of a text
---   IsPromisedFault, DefinesPromised        why a text has none, and what is answered for it
---   IsNoPromisedText, ReadsPromised         the same of a text that is read
---   IsNoPromisedInput, ReadsPromisedInputs  the same of a packet file and a text
+--   IsPromisedFault, DefinesPromised        why a text has none, and what is returned for it
+--   IsNoPromisedText, ReadsPromised         the same for a text that is read
+--   IsNoPromisedInput, ReadsPromisedInputs  the same for a packet file and a text
 use Rattle.std.specs.Prelude.{◌≡◌, ◌⊎◌, ℕ, ◌≤◌, List, map, length, ⊤, Result, Ok, Err}
 use Rattle.ttx_cycle.specs.Bounded.{most_bytes}
 use Rattle.ttx_cycle.specs.Cycles.{slots_of}

@@ -4,8 +4,8 @@
 --   class_of, takes_choices         the class of a receiver of a kind, and whether it takes the choices that it has
 --   tuned_to, held_by       what a receiver that is asked for is set to, and what it holds after some slots, with nothing received before
 --   Hears                   what it makes of some slots of a cycle that is sent again and again
---   IsReceivedFile          the same of a packet file, and which memory that is
---   Receives                what was written at each answer
+--   IsReceivedFile          the same for a packet file, and which memory that is
+--   Receives                what was written for each answer
 use Rattle.std.specs.Prelude.{◌≡◌, ℕ, ◌<◌, pos, Bool, true, false, List, fold, length, take, Option, Result, Ok, Err}
 use Rattle.std.specs.Io.KnownBytes.{Appends, Keeps}
 use Rattle.ttx_cycle.specs.Files.{IsPacketFile}
@@ -64,7 +64,7 @@ pub record IsReceivedFile (t : Tuning) (holds : List (List ℕ) → Memory) (sta
   pub run : Hears t slots start count old new
   pub same : new ≡ holds (sent_from (repeated slots) (pos start) count)
 
--- Ok: the lines of the View of the memory that the receiver then holds went out. A write fault: the first `written` bytes of them. Else nothing, and
+-- Ok: the lines of the View of the memory that the receiver then holds went out. A write fault: the first `written` bytes of them. Otherwise nothing, and
 -- the file is refused as it is judged.
 abbrev pub Receives : Tuning → (List (List ℕ) → Memory) → ℕ → ℕ → List ℕ → Memory → Option (List ℕ) → Option (List ℕ) → Result ℕ ToolFault → Type 0
 Receives t holds start count bytes held before after (Ok status) =

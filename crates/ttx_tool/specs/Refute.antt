@@ -1,12 +1,13 @@
 -- What `refute` writes for a packet file, the text of a service and that of a certificate.
 --
 --   counter_line, counter_numbers    the line of a counter-run, and what it says after the page
+--   said_counter, said_none what is said of a counter-run, and that there is none: a line, or a JSON object
 --   saved                   the text that is kept of it, where it is asked for
 --   TellsAnswer             what goes out where there is a counter-run, and where there is none
 --   IsRefutation, IsRefutingFiles    what is found of a cycle, a service and a certificate, and of their texts, and what goes out
---   IsNoClass, IsClassFault, IsNoRefuting, RefutesText    why nothing is looked for; what is answered
---   RefutesFiles            what was written to the counter-run's file and to the output, at each answer
-use Rattle.std.specs.Prelude.{◌≡◌, ◌↔◌, ℕ, Bool, true, List, [], ◌∷◌, ◌++◌, length, slice_get, codes, string_bytes, is_some, ⊤, Option, Some, None}
+--   IsNoClass, IsClassFault, IsNoRefuting, RefutesText    why nothing is looked for; what is returned
+--   RefutesFiles            what was written to the counter-run's file and to the output, for each answer
+use Rattle.std.specs.Prelude.{◌≡◌, ◌↔◌, ℕ, Bool, true, false, List, [], ◌∷◌, ◌++◌, length, slice_get, codes, string_bytes, is_some, ⊤, Option, Some, None}
 use Rattle.std.specs.Prelude.{Result, Ok, Err, if◌then◌else◌}
 use Rattle.std.specs.Fmt.{decimal}
 use Rattle.std.specs.Io.KnownBytes.{Keeps}
@@ -23,7 +24,9 @@ use Rattle.ttx_header.specs.Ids.{Id}
 use Rattle.ttx_page.specs.Pages.{Page}
 use Rattle.ttx_page.specs.declared.class.Class.{Class as ClassOf}
 use Rattle.ttx_page.specs.declared.class.Class.TheVariants.{Any, Clearing}
+use Rattle.ttx_records.specs.Counters.{counter_record, none_record}
 use Rattle.ttx_source.specs.Services.{ServiceFields, pages_of}
+use Rattle.ttx_tool.specs.declared.commands.refute.Asked.{Asked}
 use Rattle.ttx_tool.specs.declared.faults.ToolFault.{ToolFault}
 use Rattle.ttx_tool.specs.declared.faults.ToolFault.TheVariants.{Files, Class}
 use Rattle.ttx_digits.specs.PageIds.{id_text}
@@ -43,39 +46,49 @@ counter_numbers c =
     codes " start " ++ decimal c.start ++ codes " slots " ++ decimal c.slots ++ codes " hits " ++ decimal (length c.hits)
     ++ codes " choices " ++ decimal (length c.choices)
 
+abbrev pub said_counter : Bool → Id → CounterRun → List ℕ
+said_counter false id c = counter_line id c
+said_counter true id c = counter_record id c
+
+abbrev pub said_none : Bool → List ℕ
+said_none false = codes "none" ++ 10 ∷ []
+said_none true = none_record
+
 abbrev pub saved : Bool → CounterRun → List ℕ
 saved save c = if save then counter_text c else []
 
 -- the counter-run has the certificate's numbers, and its page is named
-pub record IsCounterTold (slots : List (List ℕ)) (pages : List Page) (w : CertificateFields) (c : CounterRun) (line : List ℕ) : Type 0 where
+pub record IsCounterTold (slots : List (List ℕ)) (pages : List Page) (w : CertificateFields) (json : Bool) (c : CounterRun) (line : List ℕ)
+    : Type 0 where
   pub is : IsCounterTo slots pages (certificate_at w) c
   pub page : Page
   pub here : slice_get pages c.page ≡ Some page
-  pub same : line ≡ counter_line page.id c
+  pub same : line ≡ said_counter json page.id c
 
-abbrev pub TellsAnswer : List (List ℕ) → List Page → CertificateFields → Bool → Option CounterRun → List ℕ → List ℕ → ℕ → Type 0
-TellsAnswer slots pages w save (Some c) file line status = IsCounterTold slots pages w c line × (file ≡ saved save c) × (status ≡ 1)
-TellsAnswer slots pages w save None file line status = IsUnrefuted slots pages (certificate_at w) × (file ≡ []) × (line ≡ codes "none" ++ 10 ∷ [])
-    × (status ≡ 0)
+abbrev pub TellsAnswer : List (List ℕ) → List Page → CertificateFields → Asked → Option CounterRun → List ℕ → List ℕ → ℕ → Type 0
+TellsAnswer slots pages w asked (Some c) file line status =
+    IsCounterTold slots pages w asked.json c line × (file ≡ saved asked.save c) × (status ≡ 1)
+TellsAnswer slots pages w asked None file line status =
+    IsUnrefuted slots pages (certificate_at w) × (file ≡ []) × (line ≡ said_none asked.json) × (status ≡ 0)
 
 -- Where all pages are sent unchanged in clean slots, there is a counter-run exactly where no certificate of these numbers is accepted.
-pub record IsRefutation (slots : List (List ℕ)) (service : ServiceFields) (w : CertificateFields) (save : Bool) (file line : List ℕ) (status : ℕ)
+pub record IsRefutation (slots : List (List ℕ)) (service : ServiceFields) (w : CertificateFields) (asked : Asked) (file line : List ℕ) (status : ℕ)
     : Type 0 where
   pub class : w.class ≡ Any
   pub answer : Option CounterRun
-  pub told : TellsAnswer slots (pages_of service) w save answer file line status
+  pub told : TellsAnswer slots (pages_of service) w asked answer file line status
   pub exact : IsSentUnchanged slots (pages_of service) →
       (is_some answer ≡ true) ↔ (CanBeAccepted slots (pages_of service) Any w.lines w.repeat w.deadline → ⊥)
 
--- the same of three files
-pub record IsRefutingFiles (a b c : List ℕ) (save : Bool) (file line : List ℕ) (status : ℕ) : Type 0 where
+-- the same for three files
+pub record IsRefutingFiles (a b c : List ℕ) (asked : Asked) (file line : List ℕ) (status : ℕ) : Type 0 where
   pub slots : List (List ℕ)
   pub service : ServiceFields
   pub w : CertificateFields
   pub cycle_is : IsPacketFile a slots
   pub service_is : IsServiceText b service
   pub certificate_is : IsCertificateText c w
-  pub told : IsRefutation slots service w save file line status
+  pub told : IsRefutation slots service w asked file line status
 
 -- the certificate is for receivers that surely clear
 pub record IsNoClass (a b c : List ℕ) : Type 0 where
@@ -87,7 +100,7 @@ pub record IsNoClass (a b c : List ℕ) : Type 0 where
   pub certificate_is : IsCertificateText c w
   pub class : w.class ≡ Clearing
 
--- the certificate isn't for receivers of any class, or memory is wanting
+-- the certificate is not of class any, or memory ran out
 abbrev pub IsClassFault : ClassOf → ToolFault → Type 0
 IsClassFault class Class = class ≡ Clearing
 IsClassFault class (Files NoMemory) = ⊤
@@ -99,16 +112,16 @@ IsNoRefuting a b c Class = IsNoClass a b c
 IsNoRefuting a b c (Files fault) = IsRefused a b c fault
 IsNoRefuting a b c _ = ⊥
 
-abbrev pub RefutesText : List ℕ → List ℕ → List ℕ → Bool → Result (Filed ℕ) ToolFault → Type 0
-RefutesText a b c save (Ok told) = IsRefutingFiles a b c save told.file.items (string_bytes told.line) told.verdict
-RefutesText a b c save (Err fault) = IsNoRefuting a b c fault
+abbrev pub RefutesText : List ℕ → List ℕ → List ℕ → Asked → Result (Filed ℕ) ToolFault → Type 0
+RefutesText a b c asked (Ok told) = IsRefutingFiles a b c asked told.file.items (string_bytes told.line) told.verdict
+RefutesText a b c asked (Err fault) = IsNoRefuting a b c fault
 
--- Ok: the bytes of the file and the line. A write fault: the first `written` bytes of both. Else nothing, and why nothing is looked for.
-abbrev pub RefutesFiles : List ℕ → List ℕ → List ℕ → Bool → Option (List ℕ) → Option (List ℕ) → Option (List ℕ) → Option (List ℕ) →
+-- Ok: the bytes of the file and the line. A write fault: the first `written` bytes of both. Otherwise nothing, and why nothing is looked for.
+abbrev pub RefutesFiles : List ℕ → List ℕ → List ℕ → Asked → Option (List ℕ) → Option (List ℕ) → Option (List ℕ) → Option (List ℕ) →
     Result ℕ ToolFault → Type 0
-RefutesFiles a b c save file_old file_new old new (Ok status) =
-    (file line : List ℕ) × IsRefutingFiles a b c save file line status × WritesBoth file line file_old file_new old new (Ok status)
-RefutesFiles a b c save file_old file_new old new (Err (Files (Write written))) =
-    (file line : List ℕ) × (status : ℕ) × IsRefutingFiles a b c save file line status
+RefutesFiles a b c asked file_old file_new old new (Ok status) =
+    (file line : List ℕ) × IsRefutingFiles a b c asked file line status × WritesBoth file line file_old file_new old new (Ok status)
+RefutesFiles a b c asked file_old file_new old new (Err (Files (Write written))) =
+    (file line : List ℕ) × (status : ℕ) × IsRefutingFiles a b c asked file line status
     × WritesBoth {T = ℕ} file line file_old file_new old new (Err (Write written))
-RefutesFiles a b c save file_old file_new old new (Err fault) = IsNoRefuting a b c fault × Keeps file_old file_new × Keeps old new
+RefutesFiles a b c asked file_old file_new old new (Err fault) = IsNoRefuting a b c fault × Keeps file_old file_new × Keeps old new

@@ -1,10 +1,11 @@
 -- What `replay` writes for a packet file, the text of a service and that of a counter-run.
 --
 --   replay_text, none_text    what goes out of a counter-run, and where there is none
---   IsReplayOf, IsReplay, IsReplaying       what goes out for slots, pages and a counter-run, and for their texts
---   IsCounterText, IsNoCounter, ReadsCounter        the counter-run that a text is, why it is none, what is answered for it
---   IsNoReplay, ReplaysText what is answered for the three texts
---   Replays                 what was written at each answer
+--   IsReplayOf, IsReplay    what goes out for slots, pages and a counter-run
+--   IsCounterText, IsNoCounter, ReadsCounter        the counter-run that a text is, why it is none, what is returned for it
+--   IsNoReplay              why nothing goes out
+--   IsReplaying, ReplaysText, Replays       the text about three files, the answer for them, and what is written for each answer; `Says` is the
+--                           text about a cycle, pages and a counter-run, with the status
 use Rattle.std.specs.Prelude.{◌≡◌, ◌⊎◌, ℕ, ◌<◌, ◌≤◌, List, [], ◌∷◌, ◌++◌, length, take, codes, string_bytes, ⊤, Option, Result, Ok, Err}
 use Rattle.std.specs.Io.KnownBytes.{Appends, Keeps}
 use Rattle.ttx_cycle.specs.Files.{IsPacketFile}
@@ -29,7 +30,7 @@ use Rattle.ttx_tool.specs.declared.faults.CounterFileFault.TheVariants as counte
 use Rattle.ttx_tool.specs.declared.faults.ToolFault.{ToolFault}
 use Rattle.ttx_tool.specs.declared.faults.ToolFault.TheVariants.{Files, Counter}
 
--- the line of the counter-run, and what its receiver shows otherwise than the page
+-- the line of the counter-run, and what its receiver shows differently from the page
 abbrev pub replay_text : Page → CounterRun → Memory → List ℕ
 replay_text page c m = counter_line page.id c ++ unlike_lines (view_of m) (view_of (memory_of_page page))
 
@@ -52,16 +53,6 @@ pub record IsCounterText (bytes : List ℕ) (c : CounterRun) : Type 0 where
   pub most : length bytes ≤ most_bytes
   pub says : read_counter_text bytes ≡ Ok c
 
--- the same of three files
-pub record IsReplaying (a b c : List ℕ) (text : List ℕ) (status : ℕ) : Type 0 where
-  pub slots : List (List ℕ)
-  pub service : ServiceFields
-  pub run : CounterRun
-  pub cycle_is : IsPacketFile a slots
-  pub service_is : IsServiceText b service
-  pub counter_is : IsCounterText c run
-  pub told : IsReplay slots (pages_of service) run text status
-
 -- why a text is that of no counter-run
 abbrev pub IsNoCounter : List ℕ → CounterFileFault → Type 0
 IsNoCounter bytes counter.Read = ⊤
@@ -79,13 +70,24 @@ abbrev pub IsNoReplay : List ℕ → List ℕ → List ℕ → ToolFault → Typ
 IsNoReplay a b c (Counter f) = (slots : List (List ℕ)) × (service : ServiceFields) × IsPacketFile a slots × IsServiceText b service × IsNoCounter c f
 IsNoReplay a b c fault = IsNoFinding a b fault
 
-abbrev pub ReplaysText : List ℕ → List ℕ → List ℕ → Result (Told ℕ) ToolFault → Type 0
-ReplaysText a b c (Ok told) = IsReplaying a b c (string_bytes told.line) told.verdict
-ReplaysText a b c (Err fault) = IsNoReplay a b c fault
+module _ (Says : List (List ℕ) → List Page → CounterRun → List ℕ → ℕ → Type 0) where
+  -- what goes out of three files
+  pub record IsReplaying (a b c : List ℕ) (text : List ℕ) (status : ℕ) : Type 0 where
+    pub slots : List (List ℕ)
+    pub service : ServiceFields
+    pub run : CounterRun
+    pub cycle_is : IsPacketFile a slots
+    pub service_is : IsServiceText b service
+    pub counter_is : IsCounterText c run
+    pub told : Says slots (pages_of service) run text status
 
--- Ok: the lines went out. A write fault: their first `written` bytes. Else nothing, and why nothing is replayed.
-abbrev pub Replays : List ℕ → List ℕ → List ℕ → Option (List ℕ) → Option (List ℕ) → Result ℕ ToolFault → Type 0
-Replays a b c old new (Ok status) = (text : List ℕ) × IsReplaying a b c text status × Appends old new text
-Replays a b c old new (Err (Files (Write written))) =
-    (text : List ℕ) × (status : ℕ) × IsReplaying a b c text status × (written < length text) × Appends old new (take written text)
-Replays a b c old new (Err fault) = IsNoReplay a b c fault × Keeps old new
+  abbrev pub ReplaysText : List ℕ → List ℕ → List ℕ → Result (Told ℕ) ToolFault → Type 0
+  ReplaysText a b c (Ok told) = IsReplaying a b c (string_bytes told.line) told.verdict
+  ReplaysText a b c (Err fault) = IsNoReplay a b c fault
+
+  -- Ok: the text went out. A write fault: its first `written` bytes. Otherwise nothing, and why nothing is replayed.
+  abbrev pub Replays : List ℕ → List ℕ → List ℕ → Option (List ℕ) → Option (List ℕ) → Result ℕ ToolFault → Type 0
+  Replays a b c old new (Ok status) = (text : List ℕ) × IsReplaying a b c text status × Appends old new text
+  Replays a b c old new (Err (Files (Write written))) =
+      (text : List ℕ) × (status : ℕ) × IsReplaying a b c text status × (written < length text) × Appends old new (take written text)
+  Replays a b c old new (Err fault) = IsNoReplay a b c fault × Keeps old new

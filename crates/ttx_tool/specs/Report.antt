@@ -1,9 +1,9 @@
 -- What `report` writes for a packet file, the text of a service and that of a certificate.
 --
---   ReadsDefined, ReadsSealed       what is answered for the text of a service with promises, and of a certificate, with their bytes
---   IsNoFiling, ReadsFiling         why the three are not read, and what is answered for them
---   TellsReport             what is told of a cycle, a service and a certificate
---   IsReporting, ReportsText, ReportsFiles  what is told of them, answered for them, and written at each answer
+--   ReadsDefined, ReadsSealed       what is returned for the text of a service with promises, and of a certificate, with their bytes
+--   IsNoFiling, ReadsFiling         why the three are not read, and what is returned for them
+--   TellsReport             the report on a cycle, a service and a certificate
+--   IsReporting, ReportsText, ReportsFiles  the report on three files, the answer for them, and what is written for each answer
 use Rattle.std.specs.Prelude.{◌≡◌, ℕ, ◌<◌, List, length, take, map, string_bytes, Option, Result, Ok, Err}
 use Rattle.std.specs.Io.KnownBytes.{Appends, Keeps}
 use Rattle.ttx_certificate.specs.Certificates.{fields_of}
@@ -79,7 +79,7 @@ abbrev pub ReportsText : List ℕ → List ℕ → List ℕ → Option (List ℕ
 ReportsText a b c date (Ok told) = IsReporting a b c date (string_bytes told.line) told.verdict
 ReportsText a b c date (Err fault) = IsNoFiling a b c fault
 
--- Ok: the document went out. A write fault: its first `written` bytes. Else nothing, and why there is no report.
+-- Ok: the document went out. A write fault: its first `written` bytes. Otherwise nothing, and why there is no report.
 abbrev pub ReportsFiles : List ℕ → List ℕ → List ℕ → Option (List ℕ) → Option (List ℕ) → Option (List ℕ) → Result ℕ ToolFault → Type 0
 ReportsFiles a b c date old new (Ok status) = (text : List ℕ) × IsReporting a b c date text status × Appends old new text
 ReportsFiles a b c date old new (Err (Files (Write written))) =

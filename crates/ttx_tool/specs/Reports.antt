@@ -1,12 +1,12 @@
--- What is said of a fault, and the status of the program after it.
+-- The line of a fault, and the status of the program after it.
 --
---   source_text, refused_service, service_text, certificate_refusal        what is said of a service definition, and of a certificate
---   extract_text, extract_status            what is said of a cycle of which no service text is made, and the status
---   run_text, run_status    what is said of the text of a counter-run, and the status
+--   source_text, refused_service, service_text, certificate_refusal        the words about a service definition, and about a certificate
+--   extract_text, extract_status            the words about a cycle that has no service text, and the status
+--   run_text, run_status    the words about the text of a counter-run, and the status
 --   files_text, fault_text, fault_line      what a fault is called, of a file and of a command, and its line
 --   air_line                why nothing is sent
 --   files_status, status_of the status after it
---   Reports, ReportsWords    what a report wrote at each answer
+--   Reports, ReportsWords    what a report wrote for each answer
 use Rattle.std.specs.Prelude.{◌≡◌, ℕ, ◌<◌, List, [], ◌∷◌, ◌++◌, length, take, Option, Result, Ok, Err, codes}
 use Rattle.std.specs.Fmt.{decimal}
 use Rattle.std.specs.Io.KnownBytes.{Appends, Keeps}
@@ -52,7 +52,7 @@ source_text no_memory = codes "11 no-memory"
 abbrev pub refused_service : List ℕ → ℕ → List ℕ
 refused_service why page = codes "refused: service " ++ why ++ codes " page " ++ decimal page
 
--- want of memory is no refusal
+-- lack of memory is no refusal
 abbrev pub service_text : Fault → ℕ → List ℕ
 service_text no_memory page = codes "fault: memory"
 service_text fault page = refused_service (source_text fault) page
@@ -176,5 +176,6 @@ ReportsWords words.Within old new result = Reports (codes "refused: within" ++ 1
 ReportsWords words.Numbers old new result = Reports (codes "refused: numbers" ++ 10 ∷ []) 2 old new result
 ReportsWords words.Clocks old new result = Reports (codes "refused: clocks" ++ 10 ∷ []) 2 old new result
 ReportsWords words.Twice old new result = Reports (codes "refused: twice" ++ 10 ∷ []) 2 old new result
+ReportsWords words.Forms old new result = Reports (codes "refused: forms" ++ 10 ∷ []) 2 old new result
 ReportsWords (words.Apart conflict) old new result = Reports (conflict_line conflict) 2 old new result
 ReportsWords words.NoMemory old new result = Reports (fault_line (Files NoMemory)) 3 old new result

@@ -5,7 +5,7 @@
 --   shown_text, shown_status        what is shown of a memory, and the status
 --   IsShownFile                 the slots of a packet file, over which the memory became the new one
 --   HearsFile               the same, or why there are none
---   ShowsAfter, ShowsFile    what was written at each answer, of the memory that the receiver then holds, and of some such memory
+--   ShowsAfter, ShowsFile    what was written for each answer, of the memory that the receiver then holds, and of some such memory
 use Rattle.std.specs.Prelude.{◌≡◌, ℕ, ◌<◌, pos, Bool, not, ◌&&◌, if◌then◌else◌, List, [], ◌∷◌, ◌++◌, length, take, codes, Option, Result, Ok, Err}
 use Rattle.std.specs.Io.KnownBytes.{Appends, Keeps}
 use Rattle.std.specs.List.{list_any}
@@ -58,7 +58,7 @@ HearsFile t holds start count bytes old new (Ok _) = IsShownFile t holds start c
 HearsFile t holds start count bytes old new (Err (Cycle fault)) = Judged bytes (Err fault) × (new ≡ old)
 HearsFile t holds start count bytes old new (Err _) = ⊥
 
--- Ok: the View of the memory went out, or that no header of the page came. A write fault: the first `written` bytes of that. Else
+-- Ok: the View of the memory went out, or that no header of the page came. A write fault: the first `written` bytes of that. Otherwise
 -- nothing, and the file is refused as it is judged.
 abbrev pub ShowsAfter : Tuning → (List (List ℕ) → Memory) → ℕ → ℕ → Look → List ℕ → Memory → Memory → Option (List ℕ) → Option (List ℕ) →
     Result ℕ ToolFault → Type 0

@@ -1,11 +1,11 @@
 -- The text of a service with promises and stays, and what `plan` with spread rounds writes for it.
 --
 --   IsStayingText           the service, the promises and the stays of a text
---   IsStayingFault, DefinesStaying, IsNoStayingText, ReadsStaying       why a text has none; what is answered for it, and when it is read
+--   IsStayingFault, DefinesStaying, IsNoStayingText, ReadsStaying       why a text has none; what is returned for it, and when it is read
 --   Plans                   what is planned for the service of a text
 --   missed_text, Refuses, SaysFault         the lines of what no plan keeps; the fault in their place; the answer where there is no plan
---   IsNoSpread, Spreads     why a text has no plan; what is answered for a text
---   WritesPlan, PlansSpread what was written to the packet file and to the output, at each answer
+--   IsNoSpread, Spreads     why a text has no plan; what is returned for a text
+--   WritesPlan, PlansSpread what was written to the packet file and to the output, for each answer
 use Rattle.std.specs.Prelude.{◌≡◌, ◌⊎◌, ℕ, ◌≤◌, List, map, length, string_bytes, String, Option, Some, None, Result, Ok, Err}
 use Rattle.std.specs.Io.KnownBytes.{Keeps}
 use Rattle.std.specs.declared.alloc.Global.{Global}

@@ -1,4 +1,4 @@
--- What is answered for a file in whose place an author's text may stand.
+-- What is returned for a file in whose place an author's text may stand.
 --
 --   Stands                  the service text that it stands for, or the lines about an author's text; else why it is not read
 use Rattle.std.specs.Prelude.{ℕ, List, Result, Ok, Err}

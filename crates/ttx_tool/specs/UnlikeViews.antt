@@ -1,4 +1,4 @@
--- What differs of two Views, in lines (profile).
+-- The differences of two Views, in lines (profile).
 --
 --   compared                the cells of a row that are compared
 --   unlike_row, unlike_rows the lines of a row, and of rows, of both Views where they differ

@@ -1,7 +1,7 @@
 -- What `version` writes.
 --
 --   version_text            the version of the program, and the kit and the logic by which it is proved
---   TellsVersion                   what was written of a text at each answer
+--   TellsVersion                   what was written of a text for each answer
 use Rattle.std.specs.Prelude.{ℕ, List, [], ◌∷◌, ◌++◌, codes, Option, Result, Ok, Err}
 use Rattle.std.specs.Io.KnownBytes.{Appends}
 use Rattle.ttx_files.specs.Answers.{WritesLine}

@@ -2,10 +2,10 @@
 --
 --   wait_status             0 where there is a deadline for all pages, else 1
 --   shows_promises          whether waits stand beside promises
---   IsWaitOf, IsPromisedWaitOf, IsWaitBeside        what is told of a cycle and a service; beside its promises; either of both
---   IsWaiting               the same of their texts
---   WaitsText               what is answered for them
---   Waits                   what was written at each answer
+--   IsWaitOf, IsPromisedWaitOf, IsWaitBeside        the lines for a cycle and a service; beside its promises; either of both
+--   IsWaiting               the same for their texts
+--   WaitsText               what is returned for them
+--   Waits                   what was written for each answer
 use Rattle.std.specs.Prelude.{◌≡◌, ℕ, ◌<◌, nat_lt, Bool, true, false, if◌then◌else◌, List, length, take, string_bytes, Option, Some, None, Result, Ok, Err}
 use Rattle.std.specs.Io.KnownBytes.{Appends, Keeps}
 use Rattle.ttx_cycle.specs.Files.{IsPacketFile}
@@ -50,7 +50,7 @@ abbrev pub IsWaitBeside : Bool → List (List ℕ) → ServiceFields → List Pr
 IsWaitBeside true slots service promises repeat class detail text status = IsPromisedWaitOf slots service promises repeat class text status
 IsWaitBeside false slots service promises repeat class detail text status = IsWaitOf slots service repeat class detail text status
 
--- the same of a packet file and the text of a service
+-- the same for a packet file and the text of a service
 pub record IsWaiting (a b : List ℕ) (repeat : ℕ) (class : Class) (detail : Detail) (text : List ℕ) (status : ℕ) : Type 0 where
   pub slots : List (List ℕ)
   pub service : ServiceFields
@@ -63,7 +63,7 @@ abbrev pub WaitsText : List ℕ → List ℕ → ℕ → Class → Detail → Re
 WaitsText a b repeat class detail (Ok told) = IsWaiting a b repeat class detail (string_bytes told.line) told.verdict
 WaitsText a b repeat class detail (Err fault) = IsNoPromisedInput a b fault
 
--- Ok: the lines went out. A write fault: their first `written` bytes. Else nothing, and why there is no cycle or no service.
+-- Ok: the lines went out. A write fault: their first `written` bytes. Otherwise nothing, and why there is no cycle or no service.
 abbrev pub Waits : List ℕ → List ℕ → ℕ → Class → Detail → Option (List ℕ) → Option (List ℕ) → Result ℕ ToolFault → Type 0
 Waits a b repeat class detail old new (Ok status) = (text : List ℕ) × IsWaiting a b repeat class detail text status × Appends old new text
 Waits a b repeat class detail old new (Err (Files (Write written))) =

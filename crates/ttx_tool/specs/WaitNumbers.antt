@@ -1,9 +1,9 @@
 -- What `wait --numbers` writes for a packet file and the text of a service.
 --
 --   IsNumbersWaitOf         the lines of `wait`, and behind them those of the numbers with several pages
---   IsNumbersWaiting        the same of the texts
---   WaitsNumbersText        what is answered for them
---   WaitsNumbers            what was written at each answer
+--   IsNumbersWaiting        the same for the texts
+--   WaitsNumbersText        what is returned for them
+--   WaitsNumbers            what was written for each answer
 use Rattle.std.specs.Prelude.{◌≡◌, ℕ, ◌<◌, Bool, List, ◌++◌, length, take, string_bytes, Option, Result, Ok, Err}
 use Rattle.std.specs.Io.KnownBytes.{Appends, Keeps}
 use Rattle.ttx_cycle.specs.Files.{IsPacketFile}
@@ -27,7 +27,7 @@ pub record IsNumbersWaitOf (beside : Bool) (slots : List (List ℕ)) (service : 
   pub lines : IsNumberWaits slots service numbers
   pub text_is : text ≡ waits ++ numbers
 
--- the same of a packet file and the text of a service
+-- the same for a packet file and the text of a service
 pub record IsNumbersWaiting (a b : List ℕ) (repeat : ℕ) (class : Class) (detail : Detail) (text : List ℕ) (status : ℕ) : Type 0 where
   pub slots : List (List ℕ)
   pub service : ServiceFields
@@ -40,7 +40,7 @@ abbrev pub WaitsNumbersText : List ℕ → List ℕ → ℕ → Class → Detail
 WaitsNumbersText a b repeat class detail (Ok told) = IsNumbersWaiting a b repeat class detail (string_bytes told.line) told.verdict
 WaitsNumbersText a b repeat class detail (Err fault) = IsNoPromisedInput a b fault
 
--- Ok: the lines went out. A write fault: their first `written` bytes. Else nothing, and why there is no cycle or no service.
+-- Ok: the lines went out. A write fault: their first `written` bytes. Otherwise nothing, and why there is no cycle or no service.
 abbrev pub WaitsNumbers : List ℕ → List ℕ → ℕ → Class → Detail → Option (List ℕ) → Option (List ℕ) → Result ℕ ToolFault → Type 0
 WaitsNumbers a b repeat class detail old new (Ok status) =
     (text : List ℕ) × IsNumbersWaiting a b repeat class detail text status × Appends old new text

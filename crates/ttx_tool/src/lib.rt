@@ -13,4 +13,5 @@ mod views;
 pub use faults::{AirRefusal, CounterFileFault, ExtractionFault, ToolFault};
 pub use ttx_arguments::{Look, Order, ReceiverKind, Tuning, WordsFault, words};
 pub use ttx_broadcast::{BroadcastFault, LogCopy, Outputs, ServiceFile};
+pub use ttx_failure::FailureForm;
 pub use ttx_files::TextFile;

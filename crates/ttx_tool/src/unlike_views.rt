@@ -1,4 +1,4 @@
-//! What differs of two Views, in lines.
+//! The differences of two Views, in lines.
 
 ghost use Rattle.std.specs.Prelude.{◌≡◌, ◌<◌, ◌≤◌, ◌∷◌, ◌++◌, [], OnOk, IfOk, codes, length, string_bytes};
 ghost use Rattle.std.specs.Str.{bytes_eq};
@@ -126,7 +126,7 @@ fn push_unlike_links(
     }
 }
 
-/// Adds the lines of what differs of two Views: of what is shown, and of the page.
+/// Adds the lines of two Views where they differ: of what is shown, and of the page.
 pub(crate) fn push_unlike_lines(
     alloc: Global,
     text: &mut String,

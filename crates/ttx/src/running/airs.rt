@@ -1,17 +1,18 @@
 //! The command that puts a service on the air: `air`.
 
 use super::Outcome;
-use super::zones::begin_ahead;
+use super::zones::{begin_ahead, begin_zoned, zones_with};
 use crate::devices::create_log;
 use crate::reports::{report, report_refusal, status_of};
 use std::io::{IsTerminal, Write};
 use std::{fs, io};
 use ttx_arguments::{AirOrder, Clock as AskedClock, Offset};
 use ttx_cycle::Counted;
+use ttx_moment::ZoneClock;
 use ttx_send::Clock;
 use ttx_tool::{AirRefusal, BroadcastFault, LogCopy, Outputs, ServiceFile, ToolFault, commands};
 
-// Reports why a broadcast ended before its time, and answers the status.
+// Reports why a broadcast ended before its time, and returns the status.
 fn status_of_air(rt: &HostRuntime, ended: Result<(), BroadcastFault>) -> u8 {
     let Err(fault) = ended else {
         return 0;
@@ -24,7 +25,7 @@ fn status_of_air(rt: &HostRuntime, ended: Result<(), BroadcastFault>) -> u8 {
 fn air_with<C: Clock, L: Write + Drop>(
     rt: &HostRuntime,
     order: &AirOrder<'_>,
-    clock: C,
+    clock: &C,
     log: L,
 ) -> u8 {
     let source = ServiceFile {
@@ -40,7 +41,7 @@ fn air_with<C: Clock, L: Write + Drop>(
 }
 
 // The same by this clock. The log goes to standard error, and to a file if one is named, which must not be the service.
-fn air_by<C: Clock>(rt: &HostRuntime, order: &AirOrder<'_>, clock: C) -> Outcome {
+fn air_by<C: Clock>(rt: &HostRuntime, order: &AirOrder<'_>, clock: &C) -> Outcome {
     let Some(name) = order.log else {
         let _ = fs::metadata(rt, order.service)?;
         return Ok(air_with(rt, order, clock, rt.stderr()));
@@ -53,19 +54,33 @@ fn air_by<C: Clock>(rt: &HostRuntime, order: &AirOrder<'_>, clock: C) -> Outcome
 
 fn air_ahead(rt: &HostRuntime, order: &AirOrder<'_>, offset: &Offset) -> Outcome {
     match begin_ahead(rt, &order.timing.start, offset) {
-        Some(start) => air_by(rt, order, start),
+        Some(start) => air_by(rt, order, &start),
         None => Ok(report_refusal(rt, AirRefusal::Time)),
     }
 }
 
-/// Finds the moment and the clock that are asked for, and puts the service on the air. A clock by the rules of a zone is refused: the prover
-/// cannot build the borrow checker's part of a call that takes such a clock by value.
+// The same by the rules of the time zone of this name.
+fn air_zoned(rt: &HostRuntime, order: &AirOrder<'_>, name: &str) -> Outcome {
+    let zones = match zones_with(rt, name) {
+        Ok(zones) => zones,
+        Err(fault) => return Ok(report(rt, &fault)),
+    };
+    let Ok(zone) = zones.get(name) else {
+        return Ok(report_refusal(rt, AirRefusal::Zone));
+    };
+    match begin_zoned(rt, &order.timing.start, &zone) {
+        Some(start) => air_by(rt, order, &ZoneClock::new(start, zone)),
+        None => Ok(report_refusal(rt, AirRefusal::Time)),
+    }
+}
+
+/// Finds the moment and the clock that are asked for, and puts the service on the air.
 pub fn air(rt: &HostRuntime, order: &AirOrder<'_>) -> Outcome {
     if !order.force && rt.stdout().is_terminal() {
         return Ok(report_refusal(rt, AirRefusal::Terminal));
     }
     match &order.timing.clock {
         AskedClock::Ahead(offset) => air_ahead(rt, order, offset),
-        AskedClock::Zone(_) => Ok(report_refusal(rt, AirRefusal::Zone)),
+        AskedClock::Zone(name) => air_zoned(rt, order, name),
     }
 }

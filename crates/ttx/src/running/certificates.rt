@@ -71,17 +71,54 @@ fn certify_readers_all(rt: &HostRuntime, readers: &mut ClaimReaders) -> Result<u
     )
 }
 
+// The verdict as a line, and what stands below it.
+fn certify_in_lines(
+    rt: &HostRuntime,
+    readers: &mut ClaimReaders,
+    order: &CertifyOrder<'_>,
+) -> Result<u8, ToolFault> {
+    match order.within {
+        None if order.numbers => certify_readers_numbers(rt, readers),
+        None if order.all => certify_readers_all(rt, readers),
+        None => certify_readers(rt, readers, order.late),
+        Some(fields) => certify_readers_within(rt, readers, fields.count()),
+    }
+}
+
+// The same as JSON objects.
+fn certify_as_json(
+    rt: &HostRuntime,
+    readers: &mut ClaimReaders,
+    order: &CertifyOrder<'_>,
+) -> Result<u8, ToolFault> {
+    let (cycle, service, text) = (&mut readers.cycle, &mut readers.service, &mut readers.text);
+    let mut writer = Counted::new(io::writer(rt));
+    let alloc = rt.alloc();
+    match order.within {
+        None if order.all => {
+            commands::certify_json::run_all(alloc, cycle, service, text, &mut writer)
+        }
+        None if order.late => {
+            commands::certify_json::run_late(alloc, cycle, service, text, &mut writer)
+        }
+        None => commands::certify_json::run(alloc, cycle, service, text, &mut writer),
+        Some(fields) => {
+            let required = fields.count();
+            commands::certify_json::run_within(alloc, cycle, service, text, required, &mut writer)
+        }
+    }
+}
+
 fn certify_claim(
     rt: &HostRuntime,
     claim: Claim,
     order: &CertifyOrder<'_>,
 ) -> Result<u8, ToolFault> {
     let mut readers = claim.readers(rt)?;
-    match order.within {
-        None if order.numbers => certify_readers_numbers(rt, &mut readers),
-        None if order.all => certify_readers_all(rt, &mut readers),
-        None => certify_readers(rt, &mut readers, order.late),
-        Some(fields) => certify_readers_within(rt, &mut readers, fields.count()),
+    if order.json {
+        certify_as_json(rt, &mut readers, order)
+    } else {
+        certify_in_lines(rt, &mut readers, order)
     }
 }
 
@@ -119,7 +156,7 @@ pub fn certify(rt: &HostRuntime, order: &CertifyOrder<'_>) -> Outcome {
     Ok(status_of(rt, certify_claim(rt, claim, order)))
 }
 
-// The status is 0 where there is a deadline, else 1.
+// The status is 0 if there is a deadline, otherwise 1.
 fn find_in(
     rt: &HostRuntime,
     readers: &mut SentServiceReaders,
@@ -185,7 +222,7 @@ pub fn find(rt: &HostRuntime, order: &FindOrder<'_>) -> Outcome {
     }
 }
 
-// The status is 0 where the verdict is yes, else 1.
+// The status is 0 where the verdict is yes, otherwise 1.
 fn report_to(
     rt: &HostRuntime,
     claim: Claim,
@@ -204,7 +241,7 @@ fn report_to(
     )
 }
 
-// Whether there is a date, and it is none of the calendar.
+// Whether there is a date that is not in the calendar.
 fn has_wrong_date(order: &ReportOrder<'_>) -> bool {
     match order.date {
         Some(date) => !is_date(date),
@@ -226,7 +263,7 @@ pub fn report_on(rt: &HostRuntime, order: &ReportOrder<'_>) -> Outcome {
     }
 }
 
-// Which lines there are.
+// Which lines are asked for.
 fn detail_of(order: &WaitOrder<'_>) -> Detail {
     if order.items {
         Detail::Items
@@ -235,7 +272,7 @@ fn detail_of(order: &WaitOrder<'_>) -> Detail {
     }
 }
 
-// The status is 0 where there is a deadline for all pages, else 1.
+// The status is 0 if there is a deadline for all pages, otherwise 1.
 fn wait_in(
     rt: &HostRuntime,
     readers: &mut SentServiceReaders,
@@ -271,16 +308,35 @@ fn wait_in_numbers(
     )
 }
 
+// The same as JSON objects.
+fn wait_as_json(
+    rt: &HostRuntime,
+    readers: &mut SentServiceReaders,
+    order: &WaitOrder<'_>,
+) -> Result<u8, ToolFault> {
+    let mut writer = Counted::new(io::writer(rt));
+    commands::wait_json::run(
+        rt.alloc(),
+        &mut readers.cycle,
+        &mut readers.service,
+        order.repeat.count(),
+        order.class,
+        &mut writer,
+    )
+}
+
 fn wait_for(rt: &HostRuntime, inputs: SentService, order: &WaitOrder<'_>) -> Result<u8, ToolFault> {
     let mut readers = inputs.readers(rt)?;
-    if order.numbers {
+    if order.json {
+        wait_as_json(rt, &mut readers, order)
+    } else if order.numbers {
         wait_in_numbers(rt, &mut readers, order)
     } else {
         wait_in(rt, &mut readers, order)
     }
 }
 
-/// Opens the cycle and the service, and tells how long viewers of each page wait.
+/// Opens the cycle and the service, and writes how long viewers of each page wait.
 pub fn wait(rt: &HostRuntime, order: &WaitOrder<'_>) -> Outcome {
     let inputs = SentService::open(rt, order.cycle, order.service)?;
     Ok(status_of(rt, wait_for(rt, inputs, order)))

@@ -34,7 +34,7 @@ fn pages_of(rt: &HostRuntime, reader: &mut PacketFile, json: bool) -> Result<u8,
     }
 }
 
-/// Tells which pages a cycle has.
+/// Lists the pages of a cycle.
 pub fn pages(rt: &HostRuntime, cycle: &str, json: bool) -> Outcome {
     let mut reader = match recorded(rt, open_input(rt, cycle)?) {
         Ok(reader) => reader,
@@ -81,7 +81,7 @@ fn extract_from(
     }
 }
 
-/// Opens the cycle, makes the service's file anew, and writes the service that the cycle sends to it.
+/// Opens the cycle, makes the service's file anew, and writes to it the service that the cycle sends.
 pub fn extract(rt: &HostRuntime, cycle: &str, out: &str, lines: u8) -> Outcome {
     let cycle = open_input(rt, cycle)?;
     let Some(file) = create_out(rt, &[&cycle], out)? else {

@@ -10,8 +10,8 @@ use ttx_cycle::Counted;
 use ttx_tool::commands::standing::Standing;
 use ttx_tool::{ToolFault, commands};
 
-// The name that a file has in lines and comments.
-fn shown_name(name: &str) -> &str {
+/// The name that a file has in lines and comments.
+pub fn shown_name(name: &str) -> &str {
     if name == "-" { "<stdin>" } else { name }
 }
 
@@ -74,12 +74,12 @@ impl Desk {
     }
 }
 
-/// Makes a service text of an author's text.
+/// Turns an author's text into a service text.
 pub fn compose(rt: &HostRuntime, author: &str, out: &str) -> Outcome {
     Desk::Compose.open(rt, author, out)
 }
 
-/// Makes an author's text of a service text.
+/// Turns a service text into an author's text.
 pub fn decompose(rt: &HostRuntime, service: &str, out: &str) -> Outcome {
     Desk::Decompose.open(rt, service, out)
 }

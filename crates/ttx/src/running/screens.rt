@@ -5,8 +5,8 @@ use super::desks::standing;
 use super::inputs::{buffered, recorded};
 use crate::devices::{Input, open_input};
 use crate::reports::{diagnosed, report, status_of};
-use std::io;
-use std::io::BufReader;
+use std::io::{BufReader, IsTerminal};
+use std::{env, io};
 use ttx_arguments::{Look, Tuning};
 use ttx_cycle::Counted;
 use ttx_page::Selection;
@@ -14,14 +14,24 @@ use ttx_recognition::Recorded;
 use ttx_tool::commands::standing::Standing;
 use ttx_tool::{ToolFault, commands};
 
+// Whether standard output is a terminal that shows colours: NO_COLOR says that it must not.
+fn shows_colours(rt: &HostRuntime) -> bool {
+    let refused = match env::var(rt, "NO_COLOR") {
+        Ok(value) => !value.is_empty(),
+        Err(_) => false,
+    };
+    !refused && rt.stdout().is_terminal()
+}
+
 fn show_input(
     rt: &HostRuntime,
     reader: &mut Counted<Recorded<BufReader<Input>>>,
     tuning: &Tuning,
     look: &Look<'_>,
 ) -> Result<u8, ToolFault> {
+    let look = look.seen(shows_colours(rt));
     let mut writer = Counted::new(io::writer(rt));
-    commands::show::run(rt.alloc(), reader, tuning, look, &mut writer)
+    commands::show::run(rt.alloc(), reader, tuning, &look, &mut writer)
 }
 
 /// Opens the cycle, and shows a page as a receiver shows it.
@@ -54,11 +64,12 @@ fn preview_input(
     look: &Look<'_>,
 ) -> Result<u8, ToolFault> {
     let standing = standing(rt, input, name)?;
+    let look = look.seen(shows_colours(rt));
     let mut writer = Counted::new(io::writer(rt));
     match standing {
         Standing::Text(text) => {
             let mut reader = Counted::new(text.as_slice());
-            commands::preview::run(rt.alloc(), &mut reader, selection, look, &mut writer)
+            commands::preview::run(rt.alloc(), &mut reader, selection, &look, &mut writer)
         }
         Standing::Lines(lines) => commands::standing::refuse(&mut writer, lines.as_str()),
     }
@@ -68,4 +79,28 @@ fn preview_input(
 pub fn preview(rt: &HostRuntime, service: &str, selection: &Selection, look: &Look<'_>) -> Outcome {
     let input = open_input(rt, service)?;
     Ok(status_of(rt, preview_input(rt, input, service, selection, look)))
+}
+
+fn preview_all_input(
+    rt: &HostRuntime,
+    input: Input,
+    name: &str,
+    look: &Look<'_>,
+) -> Result<u8, ToolFault> {
+    let standing = standing(rt, input, name)?;
+    let look = look.seen(shows_colours(rt));
+    let mut writer = Counted::new(io::writer(rt));
+    match standing {
+        Standing::Text(text) => {
+            let mut reader = Counted::new(text.as_slice());
+            commands::preview_all::run(rt.alloc(), &mut reader, look.form, look.reveal, &mut writer)
+        }
+        Standing::Lines(lines) => commands::standing::refuse(&mut writer, lines.as_str()),
+    }
+}
+
+/// Opens the service, or an author's text that stands for it, and shows all its pages before they are sent.
+pub fn preview_all(rt: &HostRuntime, service: &str, look: &Look<'_>) -> Outcome {
+    let input = open_input(rt, service)?;
+    Ok(status_of(rt, preview_all_input(rt, input, service, look)))
 }

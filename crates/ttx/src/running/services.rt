@@ -1,27 +1,36 @@
 //! The commands that take a service alone: `check`, `plan`.
 
 use super::Outcome;
+use super::desks::shown_name;
 use super::inputs::buffered;
 use crate::devices::{Input, create_out, open_input};
 use crate::reports::{report, status_of};
 use std::fs::File;
 use std::io;
-use std::io::BufReader;
-use ttx_arguments::PlanOrder;
+use std::io::{BufReader, IsTerminal};
+use ttx_arguments::{CheckOrder, PlanOrder};
 use ttx_cycle::Counted;
 use ttx_plan::Receivers;
 use ttx_promise::Viewers;
+use ttx_tool::commands::check::Style;
 use ttx_tool::{ToolFault, commands};
 
-fn check_input(rt: &HostRuntime, input: Input) -> Result<u8, ToolFault> {
+// On a terminal the report is long.
+fn check_input(rt: &HostRuntime, input: Input, order: &CheckOrder<'_>) -> Result<u8, ToolFault> {
+    let style = Style {
+        file: shown_name(order.service),
+        long: order.long || rt.stdout().is_terminal(),
+        strict: order.strict,
+    };
     let mut reader = buffered(rt, input)?;
     let mut writer = Counted::new(io::writer(rt));
-    commands::check::run(rt.alloc(), &mut reader, &mut writer)
+    commands::check::run(rt.alloc(), style, &mut reader, &mut writer)
 }
 
-/// Opens the service, and tells what is wrong, or likely wrong, in its text.
-pub fn check(rt: &HostRuntime, service: &str) -> Outcome {
-    Ok(status_of(rt, check_input(rt, open_input(rt, service)?)))
+/// Opens the service, or an author's text, and reports what is wrong, or probably wrong, in it.
+pub fn check(rt: &HostRuntime, order: &CheckOrder<'_>) -> Outcome {
+    let input = open_input(rt, order.service)?;
+    Ok(status_of(rt, check_input(rt, input, order)))
 }
 
 fn plan_to(
@@ -34,7 +43,7 @@ fn plan_to(
     commands::plan::run(rt.alloc(), reader, receivers, file, &mut writer)
 }
 
-// The same with spread rounds; the promises of the service are kept to viewers for whom each item is received right at once.
+// The same with spread rounds. The promises of the service hold for viewers who receive each item right the first time (repeat 1).
 fn plan_spread_to(
     rt: &HostRuntime,
     reader: &mut Counted<BufReader<Input>>,

@@ -83,7 +83,7 @@ fn splice_readers_sent(
     )
 }
 
-// The same for receivers that show a page only where it ends, too.
+// The same, also for receivers that show a page only where it ends.
 fn splice_readers_late(
     rt: &HostRuntime,
     readers: &mut SpliceReaders,

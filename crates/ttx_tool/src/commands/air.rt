@@ -35,7 +35,7 @@ fn name_in<'a>(clock: &AskedClock<'a>) -> ClockName<'a>
     }
 }
 
-// The broadcast that the words ask for.
+// The broadcast that the arguments ask for.
 fn request<'a, C>(order: &AirOrder<'a>, clock: C) -> Request<'a, C>
     ensures { Asks order.now clock result }
 {
@@ -54,18 +54,18 @@ fn request<'a, C>(order: &AirOrder<'a>, clock: C) -> Request<'a, C>
 
 /// Puts the service on the air whose text the source holds. The log gets what was asked for, and a line for each event.
 ///
-/// At `Write` exactly the first `written` bytes of the air went out; at each other fault nothing is sent.
+/// After `Write` exactly the first `written` bytes of the air went out; after any other fault nothing is sent.
 pub fn run<C: Clock, S: TextSource + Drop, L: Write, W: Write>(
     alloc: Global,
     order: &AirOrder<'_>,
-    clock: C,
+    clock: &C,
     source: S,
     outputs: &mut Outputs<L, W>,
 ) -> Result<(), BroadcastFault>
-    ensures { (request : asked.Request C) × Asks order.now clock request
+    ensures { (request : asked.Request C) × Asks order.now clock.now request
         × Broadcasts S.reads (wish_of C.shows request) source (outs_of L.contents W.contents outputs.old) (outs_of L.contents W.contents outputs.new) result }
 {
-    broadcast(alloc, &request(order, clock), source, outputs)
+    broadcast(alloc, &request(order, *clock), source, outputs)
 }
 
 // The line of a first text that has no edition.
@@ -103,9 +103,9 @@ fn status(fault: &BroadcastFault) -> u8
     }
 }
 
-/// Writes the line that says why a broadcast ended, and answers the status of the program.
+/// Writes the line that says why a broadcast ended, and returns the status of the program.
 ///
-/// At `Write` exactly the first `written` bytes of the line went out; at each other fault the writer is as it was.
+/// After `Write` exactly the first `written` bytes of the line went out; after any other fault the writer is unchanged.
 pub fn report<W: Write>(
     alloc: Global,
     fault: &BroadcastFault,

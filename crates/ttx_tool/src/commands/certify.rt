@@ -26,7 +26,8 @@ pub(super) fn verdict_status(verdict: Verdict) -> u8
     }
 }
 
-fn late_status(verdict: LateVerdict) -> u8
+/// 0 for a yes, 1 for a no.
+pub(super) fn late_status(verdict: LateVerdict) -> u8
     ensures { result ≡ late_status verdict }
 {
     match verdict {
@@ -80,11 +81,11 @@ fn certify_late<A: Read, B: Read, C: Read, W: Write>(
 }
 
 /// Reads a packet file, the text of a service and that of a certificate, in this order, certifies the pages of the service, where
-/// `late` is set also for receivers that show pages late, and writes the line of the verdict: the status is 0 where it is Yes,
-/// else 1.
+/// `late` is set also for receivers that show pages late, and writes the line of the verdict: the status is 0 if it is yes,
+/// otherwise 1.
 ///
-/// Nothing is written before all is judged. At `Write` exactly the first `written` bytes of the line went out; at each other
-/// fault the writer is as it was.
+/// Nothing is written before all is judged. After `Write` exactly the first `written` bytes of the line went out; after any other
+/// fault the writer is unchanged.
 pub fn run<A: Read, B: Read, C: Read, W: Write>(
     alloc: Global,
     cycle: &mut Counted<A>,
@@ -109,10 +110,10 @@ pub fn run<A: Read, B: Read, C: Read, W: Write>(
 }
 
 /// Reads the text of a service, that of a certificate, and then a packet file twice, in this order, slot by slot. Certifies the
-/// pages of the service for the second reading and writes the line of the verdict: the status is 0 where it is Yes, else 1.
+/// pages of the service for the second reading and writes the line of the verdict: the status is 0 if it is yes, otherwise 1.
 ///
-/// Nothing is written before all is judged. At `Write` exactly the first `written` bytes of the line went out; at each other
-/// fault the writer is as it was.
+/// Nothing is written before all is judged. After `Write` exactly the first `written` bytes of the line went out; after any other
+/// fault the writer is unchanged.
 pub fn run_twice<A: Read, B: Read, C: Read, D: Read, W: Write>(
     alloc: Global,
     first: &mut Counted<A>,

@@ -16,8 +16,8 @@ use ttx_certify::certify_files_all;
 use ttx_cycle::Counted;
 
 /// Reads a packet file, the text of a service and that of a certificate, in this order, certifies the pages of the service as
-/// `certify::run`, and writes the line of the verdict, a line for each page of which a reason is true, with its first reason, and how many
-/// pages these are. The status is 0 if the verdict is yes, otherwise 1.
+/// `certify::run`, and writes the line of the verdict, a line for each page that has a reason, with the first one, and how many
+/// these are. The status is 0 if the verdict is yes, otherwise 1.
 ///
 /// Nothing is written before everything is judged. After `Write` exactly the first `written` bytes of the text went out; after any other
 /// fault the writer is unchanged.

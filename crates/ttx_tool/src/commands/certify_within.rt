@@ -14,7 +14,8 @@ use std::io::{Read, Write};
 use ttx_cycle::Counted;
 use ttx_deadline::{RequiredVerdict, certify_files_required};
 
-fn required_status(verdict: RequiredVerdict) -> u8
+/// 0 for a yes, 1 for a no.
+pub(super) fn required_status(verdict: RequiredVerdict) -> u8
     ensures { result ≡ required_status verdict }
 {
     match verdict {
@@ -24,7 +25,7 @@ fn required_status(verdict: RequiredVerdict) -> u8
 }
 
 /// Reads a packet file, the text of a service and that of a certificate, in this order, certifies the pages of the service as
-/// `certify::run`, and writes the line of the verdict. A cycle that would be accepted is refused if the certificate does not count the lines
+/// `certify::run`, and writes the line of the verdict. A cycle that would be accepted is refused if the certificate does not have the lines
 /// of the service, or does not promise a deadline of at most `required` fields. The status is 0 if the verdict is yes, otherwise 1.
 ///
 /// Nothing is written before everything is judged. After `Write` exactly the first `written` bytes of the line went out; after any other

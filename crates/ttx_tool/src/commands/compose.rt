@@ -15,11 +15,11 @@ use ttx_author_files::compose_file;
 use ttx_cycle::Counted;
 
 /// Reads an author's text with this name, of at most 4,194,304 bytes, and writes the service text that it means; then the number of its
-/// pages to the other writer: the status is 0. Where the text has mistakes or is not TOML, writes no text, and the lines of the mistakes
+/// pages to the other writer: the status is 0. If the text has mistakes or is not TOML, it writes no text, but the lines of the mistakes
 /// to the other writer: the status is 1.
 ///
-/// Nothing is written before the service text is read again. At `Write` exactly the first `written` bytes of both went out, the
-/// file's before the line's; at each other fault both writers are as they were.
+/// Nothing is written before the service text is read again. After `Write` exactly the first `written` bytes of both went out, the
+/// file's before the line's; after any other fault both writers are unchanged.
 pub fn run<R: Read, O: Write, W: Write>(
     alloc: Global,
     name: &str,

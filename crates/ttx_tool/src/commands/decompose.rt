@@ -17,8 +17,8 @@ use ttx_cycle::Counted;
 /// Reads the text of a service with this name, of at most 4,194,304 bytes, and writes the author's text of it; then the number of its
 /// pages to the other writer: the status is 0.
 ///
-/// Nothing is written before the author's text is read again. At `Write` exactly the first `written` bytes of both went out, the
-/// file's before the line's; at each other fault both writers are as they were.
+/// Nothing is written before the author's text is read again. After `Write` exactly the first `written` bytes of both went out, the
+/// file's before the line's; after any other fault both writers are unchanged.
 pub fn run<R: Read, O: Write, W: Write>(
     alloc: Global,
     name: &str,

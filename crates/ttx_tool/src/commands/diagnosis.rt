@@ -1,4 +1,4 @@
-//! What is said of bytes that are no packets of 42 bytes, behind the lines of `pages`, `show`, `book` and `extract`.
+//! The line about bytes that are no packets of 42 bytes, after the lines of `pages`, `show`, `book` and `extract`.
 
 ghost use Rattle.std.specs.Prelude.{◌≡◌, ◌∷◌, [], ◌++◌, IfOk, string_bytes};
 ghost use Rattle.ttx_cycle.specs.Counters.{inner_of, faults_of};
@@ -25,10 +25,10 @@ fn unlike_line(alloc: Global, unlike: Unlike) -> Result<String, AllocError>
     Ok(text)
 }
 
-/// Writes what the first bytes of a packet file are if they are no packets of 42 bytes, and answers the status 1; otherwise nothing, and the
-/// status that is given.
+/// Writes what the first bytes of a packet file are if they are no packets of 42 bytes, and returns status 1; otherwise writes nothing, and returns the
+/// given status.
 ///
-/// At `Write` exactly the first `written` bytes of the line went out; at each other fault the writer is as it was.
+/// After `Write` exactly the first `written` bytes of the line went out; after any other fault the writer is unchanged.
 pub fn run<W: Write>(
     alloc: Global,
     bytes: &[u8],

@@ -14,7 +14,7 @@ use ttx_cycle::Counted;
 use ttx_files::FilesFault;
 use ttx_reasons::{Entry, explain};
 
-/// Writes what a reason of the table means and what to do, by its number or its name: the status is 0. Of any other word it writes the
+/// Writes what a reason of the table means and what to do, by its number or its name: the status is 0. For any other word it writes the
 /// nearest name to `errors`: the status is 2.
 pub fn run<W: Write, E: Write>(
     alloc: Global,

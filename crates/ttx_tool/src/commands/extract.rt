@@ -64,8 +64,8 @@ fn extract_text<R: Read>(
 /// number of its pages to the other writer. `read_service` reads the text, and each of its pages is sent unchanged: none of the
 /// certifier's reasons 2 to 7 is true of it.
 ///
-/// Nothing is written before the text is compared with the cycle. At `Write` exactly the first `written` bytes of both went out, the
-/// file's before the line's; at each other fault both writers are as they were. The status is 0. `report_extraction` has the lines of faults.
+/// Nothing is written before the text is compared with the cycle. After `Write` exactly the first `written` bytes of both went out, the
+/// file's before the line's; after any other fault both writers are unchanged. The status is 0. `report_extraction` has the lines of faults.
 pub fn run<R: Read, O: Write, W: Write>(
     alloc: Global,
     reader: &mut Counted<R>,

@@ -27,7 +27,7 @@ fn found_line(alloc: Global, deadline: u32) -> Result<String, AllocError>
     format!(in alloc; "found deadline {deadline}\n")
 }
 
-// What goes out where there is a deadline.
+// What goes out if there is a deadline.
 pub(super) fn tell_deadline(
     alloc: Global,
     certificate: &Certificate,
@@ -46,7 +46,7 @@ pub(super) fn tell_deadline(
     })
 }
 
-// What goes out where there is none: the verdict is told, whatever it is.
+// What goes out if there is none: the verdict, whatever it is.
 fn tell_verdict(
     alloc: Global,
     cycle: &Cycle,
@@ -83,7 +83,7 @@ fn tell(
     ttx_witness::certificate_laws::certificates_keep_their_rules();
     ttx_certify::laws::accepted_is_seen();
     ttx_page::laws::pages_keep_their_rules();
-    // This call tells the ranges of the pages.
+    // This call brings the ranges of the pages into the proof.
     let _pages = service.pages();
     let found = find_service(alloc, cycle, service, repeat, class)?;
     match found.deadline {
@@ -118,15 +118,15 @@ fn find_text<A: Read, B: Read>(
 }
 
 /// Reads a packet file and the text of a service, and finds the certificate of the cycle for the pages of the service and
-/// receivers of the class; `repeat` is 1 to 8. Where there is a deadline, writes the text of the certificate to the file and
-/// the deadline to the other writer: the status is 0. Where there is none, writes nothing to the file, and to the other writer
-/// the verdict on the certificate, which is a No: the status is 1.
+/// receivers of the class; `repeat` is 1 to 8. If there is a deadline, it writes the text of the certificate to the file and
+/// the deadline to the other writer: the status is 0. If there is none, it writes nothing to the file, and to the other writer
+/// the verdict on the certificate, which is a rejection: the status is 1.
 ///
-/// In a packet file that `plan` writes for the same text and class a deadline is found. To what is written to an empty file,
-/// where the status is 0, `certify` says yes.
+/// In a packet file that `plan` writes for the same text and class a deadline is found. If the status is 0 and the file was empty,
+/// `certify` says yes to what was written to it.
 ///
-/// Nothing is written before all is found. At `Write` exactly the first `written` bytes of both went out, the file's before the
-/// line's; at each other fault both writers are as they were.
+/// Nothing is written before all is found. After `Write` exactly the first `written` bytes of both went out, the file's before the
+/// line's; after any other fault both writers are unchanged.
 pub fn run<A: Read, B: Read, O: Write, W: Write>(
     alloc: Global,
     cycle: &mut Counted<A>,

@@ -20,7 +20,7 @@ use ttx_files::{Filed, FilesFault, read_served, write_both};
 use ttx_source::Service;
 use ttx_witness::{Certificate, NoMemory, Reason};
 
-// What goes out at a no on so many pages.
+// What goes out for a rejection of so many pages.
 fn tell_refused(
     alloc: Global,
     certificate: &Certificate,
@@ -37,7 +37,7 @@ fn tell_refused(
     })
 }
 
-// What goes out at each verdict.
+// What goes out for each verdict.
 fn tell_verdict(
     alloc: Global,
     certificate: &Certificate,
@@ -110,8 +110,8 @@ fn find_text<A: Read, B: Read>(
 
 /// Reads a packet file and the text of a service, and gives the certificate of `find::run` the deadline that is asked for. If the cycle is
 /// accepted with it, which is so exactly if the least deadline is at most the one that is asked for, writes the text of the certificate to
-/// the file and the deadline to the other writer: the status is 0. Otherwise writes nothing to the file, and to the other writer the verdict,
-/// which is a no: the status is 1.
+/// the file and the deadline to the other writer: the status is 0. Otherwise it writes nothing to the file, and to the other writer the verdict,
+/// which is a rejection: the status is 1.
 ///
 /// Nothing is written before everything is found. After `Write` exactly the first `written` bytes of both went out, the file's before the
 /// line's; after any other fault both writers are unchanged.

@@ -16,8 +16,8 @@ use ttx_files::{FilesFault, read_packets, write_line};
 
 /// Reads a packet file and writes a line for each of its slots.
 ///
-/// Nothing is written before the whole file is read. At `Write` exactly the first `written` bytes of the text went out; at each
-/// other fault the writer is as it was.
+/// Nothing is written before the whole file is read. After `Write` exactly the first `written` bytes of the text went out; after any
+/// other fault the writer is unchanged.
 pub fn run<R: Read, W: Write>(
     alloc: Global,
     reader: &mut Counted<R>,

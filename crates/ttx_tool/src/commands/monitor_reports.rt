@@ -27,7 +27,7 @@ fn report_status(verdict: Option<FeedVerdict>) -> u8
     }
 }
 
-// Reports a feed, and answers the status.
+// Reports a feed, and returns the status.
 fn report<R: Read, W: Write>(
     alloc: Global,
     inputs: &Inputs,
@@ -53,7 +53,7 @@ fn report<R: Read, W: Write>(
 
 /// Reads a packet file, the text of a service and that of a certificate, in this order, and then a feed slot by slot, which begins with the
 /// slot of the cycle that is named, or with the one that is found. Reports the feed while it comes: each breach if `asked.all` says so,
-/// otherwise up to the first; and the state after each so many fields. At the end of the feed it writes the verdict, or how many breaches
+/// otherwise up to the first; and the state every so many fields. At the end of the feed it writes the verdict, or how many breaches
 /// there were. The status is 0 if there is none, otherwise 1. What a yes means is what it means in `monitor`.
 ///
 /// Nothing is written before the three files are read. After `Write` all earlier lines and exactly the first `written` bytes of the latest

@@ -43,8 +43,8 @@ pub(super) fn planned_line(alloc: Global, count: usize) -> Result<String, AllocE
 /// Reads the text of a service, and writes the packet file of a cycle that carries it to these receivers; then the
 /// number of its slots to the other writer.
 ///
-/// Nothing is written before the whole plan is made. At `Write` exactly the first `written` bytes of both went out, the
-/// file's before the line's; at each other fault both writers are as they were. The status is 0.
+/// Nothing is written before the whole plan is made. After `Write` exactly the first `written` bytes of both went out, the
+/// file's before the line's; after any other fault both writers are unchanged. The status is 0.
 pub fn run<R: Read, O: Write, W: Write>(
     alloc: Global,
     reader: &mut Counted<R>,

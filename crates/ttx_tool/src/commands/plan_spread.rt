@@ -1,4 +1,4 @@
-//! `plan --spread`: the cycle that carries a service in rounds of like length, and keeps its promises and its stays.
+//! `plan --spread`: the cycle that carries a service in rounds of about the same length, and keeps its promises and its stays.
 
 ghost use Rattle.std.specs.Prelude.{◌≡◌, ◌≤◌, ◌∷◌, [], IfSome, IfOk, IfErr, Ok, Err};
 ghost use Rattle.ttx_cycle.specs.Counters.{inner_of, faults_of};
@@ -21,7 +21,7 @@ use ttx_files::{FilesFault, write_both};
 use ttx_plan::PlanFault;
 use ttx_promise::{PromiseFault, Viewers, late_lines};
 
-// What becomes of a plan.
+// The result of planning.
 #[derive(Drop)]
 enum Spread {
     // All is kept.
@@ -30,7 +30,7 @@ enum Spread {
     Missed(String),
 }
 
-// The answer of lines.
+// The result for lines.
 fn missed(lines: Result<String, AllocError>) -> Result<Spread, ToolFault>
     ensures lines { IfOk lines (λ text. result ≡ Ok (Spread.Missed text)) }
     ensures memory { IfErr lines (λ _. result ≡ Err (ToolFault.Files FilesFault.NoMemory)) }
@@ -41,7 +41,7 @@ fn missed(lines: Result<String, AllocError>) -> Result<Spread, ToolFault>
     }
 }
 
-// The answer where there is no plan.
+// The result if there is no plan.
 fn say(alloc: Global, fault: StayFault) -> Result<Spread, ToolFault>
     ensures { SaysFault fault result }
 {

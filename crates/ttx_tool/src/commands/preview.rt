@@ -1,13 +1,13 @@
 //! `preview`: a page of a service as it is shown once it is received whole.
 
-ghost use Rattle.std.specs.Prelude.{◌≡◌, ◌∷◌, [], IfSome, IfOk, map, option_map, string_bytes};
+ghost use Rattle.std.specs.Prelude.{◌≡◌, ◌∷◌, [], None, IfSome, IfOk, map, option_map, string_bytes};
 ghost use Rattle.ttx_cycle.specs.Counters.{inner_of, faults_of};
 ghost use Rattle.ttx_page.specs.Views.{page_of};
 ghost use Rattle.ttx_files.specs.Answers.{IsUntouched};
 ghost use Rattle.ttx_files.specs.Devices.{AtService, input, output};
-ghost use Rattle.ttx_source.specs.Services.{pages_of};
-ghost use Rattle.ttx_tool.specs.Devices.{is_tool_write, Fails, Reads};
-ghost use Rattle.ttx_tool.specs.Preview.{first_match, preview_text, preview_status, PreviewsText, Previews};
+ghost use Rattle.ttx_source.specs.Services.{pages_of, read_bytes};
+ghost use Rattle.ttx_tool.specs.Devices.{is_tool_write, Fails};
+ghost use Rattle.ttx_tool.specs.Preview.{first_match, preview_text, preview_status, ShowsReading, PreviewsText, Previews};
 
 use super::reports::write_text;
 use super::show::{no_page_line, picture};
@@ -15,8 +15,9 @@ use crate::faults::ToolFault;
 use std::alloc::{AllocError, Global};
 use std::io::{Read, Write};
 use ttx_arguments::Look;
+use ttx_check::{Reading, reading_of};
 use ttx_cycle::Counted;
-use ttx_files::{FilesFault, Told, read_definition};
+use ttx_files::{FilesFault, Told, read_service_text};
 use ttx_page::{Page, PageMemory, Selection};
 use ttx_render::render;
 use ttx_source::Service;
@@ -69,7 +70,23 @@ fn shown(
     })
 }
 
-// What is shown of the service of a text.
+// What is shown of a text: the page, or why the text is refused.
+fn text_shown(
+    alloc: Global,
+    text: &[u8],
+    selection: &Selection,
+    look: &Look<'_>,
+) -> Result<Told<u8>, AllocError>
+    ensures { IfOk result (λ preview.
+        ShowsReading text.now selection.now look.now (read_bytes text.now) (string_bytes preview.line) preview.verdict) }
+{
+    match reading_of(alloc, text)? {
+        Reading::Read(service) => shown(alloc, &service, selection, look),
+        Reading::Refused(line) => Ok(Told { verdict: 2, line }),
+    }
+}
+
+// What is shown of the service of a text that is read here.
 fn preview_service<R: Read>(
     alloc: Global,
     reader: &mut Counted<R>,
@@ -77,23 +94,24 @@ fn preview_service<R: Read>(
     look: &Look<'_>,
 ) -> Result<Told<u8>, ToolFault>
     ensures bytes { IfSome (R.remaining (inner_of reader.old)) (λ bytes. PreviewsText bytes selection.now look.now result) }
-    ensures faults { Reads (input AtService (R.remaining (inner_of reader.old)) (faults_of reader.old) (faults_of reader.new) ∷ []) result }
+    ensures faults { Fails (input AtService None (faults_of reader.old) (faults_of reader.new) ∷ []) result }
 {
-    let service = match read_definition(alloc, reader) {
-        Ok(service) => service,
+    let text = match read_service_text(alloc, reader) {
+        Ok(text) => text,
         Err(fault) => return Err(ToolFault::Files(fault)),
     };
-    match shown(alloc, &service, selection, look) {
+    match text_shown(alloc, text.as_slice(), selection, look) {
         Ok(preview) => Ok(preview),
         Err(_) => Err(ToolFault::Files(FilesFault::NoMemory)),
     }
 }
 
 /// Reads the text of a service, and writes the View of the first page that the selection matches, as it is asked for: the status
-/// is 0. Where there is no such page, writes a line that says so: the status is 1.
+/// is 0. If there is no such page, it writes a line that says so: the status is 1. Where the text is refused, writes the line that
+/// `check` writes: the status is 2.
 ///
-/// Nothing is written before the text is read. At `Write` exactly the first `written` bytes went out; at each other fault the
-/// writer is as it was.
+/// Nothing is written before the text is read. After `Write` exactly the first `written` bytes went out; after any other fault the
+/// writer is unchanged.
 pub fn run<R: Read, W: Write>(
     alloc: Global,
     reader: &mut Counted<R>,
@@ -103,7 +121,7 @@ pub fn run<R: Read, W: Write>(
 ) -> Result<u8, ToolFault>
     ensures bytes { IfSome (R.remaining (inner_of reader.old))
         (λ bytes. Previews bytes selection.now look.now (W.contents (inner_of writer.old)) (W.contents (inner_of writer.new)) result) }
-    ensures faults { Fails (input AtService (R.remaining (inner_of reader.old)) (faults_of reader.old) (faults_of reader.new)
+    ensures faults { Fails (input AtService None (faults_of reader.old) (faults_of reader.new)
         ∷ output (faults_of writer.old) (faults_of writer.new) ∷ []) result }
     ensures untouched { IsUntouched is_tool_write result writer.old writer.new }
 {

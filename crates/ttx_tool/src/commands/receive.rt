@@ -47,11 +47,11 @@ fn receive_by<R: Read, X: Receiver + Drop, W: Write>(
     write_text(writer, text.as_str(), 0)
 }
 
-/// Reads a packet file, gives a receiver of the kind that is asked for, which has received nothing before, the slots that the tuning
-/// says, counted round the cycle, and writes the View of what it then holds. The status is 0.
+/// Reads a packet file, gives the slots of the tuning to a receiver of the kind that is asked for, which has received nothing before,
+/// round the cycle, and writes the View of what it then holds. The status is 0.
 ///
-/// Nothing is written before the whole file is read. At `Write` exactly the first `written` bytes of the text went out; at each
-/// other fault the writer is as it was.
+/// Nothing is written before the whole file is read. After `Write` exactly the first `written` bytes of the text went out; after any
+/// other fault the writer is unchanged.
 pub fn run<R: Read, W: Write>(
     alloc: Global,
     reader: &mut Counted<R>,

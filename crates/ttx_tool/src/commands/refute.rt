@@ -1,4 +1,4 @@
-//! `refute`: a viewer whom a cycle fails, by the numbers of a certificate.
+//! `refute`: a receiver that fails to show a page, by the numbers of a certificate.
 
 ghost use Rattle.std.specs.Prelude.{◌≡◌, ◌<◌, ◌∷◌, ◌++◌, [], Some, IfSome, IfOk, IfErr, OnOk};
 ghost use Rattle.std.specs.Prelude.{codes, length, map, slice_get, string_bytes};
@@ -12,7 +12,7 @@ ghost use Rattle.ttx_page.specs.Views.{page_of};
 ghost use Rattle.ttx_files.specs.Answers.{IsUntouched};
 ghost use Rattle.ttx_files.specs.Devices.{AtCycle, AtService, AtCertificate, input, output};
 ghost use Rattle.ttx_tool.specs.Devices.{is_tool_write, Fails, Reads};
-ghost use Rattle.ttx_tool.specs.Refute.{counter_line, counter_numbers, saved, IsRefutation, IsClassFault, RefutesText, RefutesFiles};
+ghost use Rattle.ttx_tool.specs.Refute.{counter_line, counter_numbers, said_counter, said_none, saved, IsRefutation, IsClassFault, RefutesText, RefutesFiles};
 
 use crate::faults::ToolFault;
 use crate::texts::push_numbered;
@@ -24,8 +24,18 @@ use ttx_digits::push_id;
 use ttx_files::{Filed, FilesFault, read_inputs, write_both};
 use ttx_header::PageId;
 use ttx_page::{Class, Page};
+use ttx_records::{counter_record, none_record};
 use ttx_source::Service;
 use ttx_witness::{Certificate, NoMemory};
+
+/// What is asked beside the answer.
+#[derive(Clone, Copy)]
+pub struct Asked {
+    /// Whether the counter-run is saved.
+    pub save: bool,
+    /// Whether the answer is a JSON object.
+    pub json: bool,
+}
 
 // Adds the numbers of a counter-run.
 fn push_counter(line: &mut String, counter: &Counter) -> Result<(), AllocError>
@@ -52,7 +62,34 @@ pub(super) fn counter_line(
     Ok(line)
 }
 
-// The text of a counter-run, where it is asked for.
+// The words about a counter-run.
+fn said_counter(
+    alloc: Global,
+    id: PageId,
+    counter: &Counter,
+    json: bool,
+) -> Result<String, AllocError>
+    ensures { IfOk result (λ line. string_bytes line ≡ said_counter json id (counter_run_of counter.now)) }
+{
+    if json {
+        counter_record(alloc, id, counter)
+    } else {
+        counter_line(alloc, id, counter)
+    }
+}
+
+// The words if there is none.
+fn said_none(alloc: Global, json: bool) -> Result<String, AllocError>
+    ensures { IfOk result (λ line. string_bytes line ≡ said_none json) }
+{
+    if json {
+        none_record(alloc)
+    } else {
+        String::from_str(alloc, "none\n")
+    }
+}
+
+// The text of a counter-run, if it is asked for.
 fn saved(alloc: Global, counter: &Counter, save: bool) -> Result<Vec<u8>, NoMemory>
     ensures text { IfOk result (λ file. file.items ≡ saved save (counter_run_of counter.now)) }
 {
@@ -62,7 +99,7 @@ fn saved(alloc: Global, counter: &Counter, save: bool) -> Result<Vec<u8>, NoMemo
     write_counter(alloc, counter)
 }
 
-// The id of the page in a place of the list.
+// The id of the page at a place of the list.
 fn id_at(pages: &[Page], index: u32) -> PageId
     requires { index < length pages.now }
     ensures { (p : definitions.Page) → slice_get (map page_of pages.now) index ≡ Some p → result ≡ p.id }
@@ -75,31 +112,32 @@ fn tell_counter(
     alloc: Global,
     pages: &[Page],
     counter: &Counter,
-    save: bool,
+    asked: Asked,
 ) -> Result<Filed<u8>, NoMemory>
     requires { counter.now.page < length pages.now }
     ensures line { IfOk result (λ told. (p : definitions.Page) → slice_get (map page_of pages.now) counter.now.page ≡ Some p →
-        string_bytes told.line ≡ counter_line p.id (counter_run_of counter.now)) }
-    ensures file { IfOk result (λ told. told.file.items ≡ saved save (counter_run_of counter.now)) }
+        string_bytes told.line ≡ said_counter asked.json p.id (counter_run_of counter.now)) }
+    ensures file { IfOk result (λ told. told.file.items ≡ saved asked.save (counter_run_of counter.now)) }
     ensures status { IfOk result (λ told. told.verdict ≡ 1) }
 {
-    let Ok(line) = counter_line(alloc, id_at(pages, counter.page), counter) else {
+    let id = id_at(pages, counter.page);
+    let Ok(line) = said_counter(alloc, id, counter, asked.json) else {
         return Err(NoMemory);
     };
     Ok(Filed {
         verdict: 1,
-        file: saved(alloc, counter, save)?,
+        file: saved(alloc, counter, asked.save)?,
         line,
     })
 }
 
-// What goes out where there is none.
-fn tell_none(alloc: Global) -> Result<Filed<u8>, NoMemory>
-    ensures line { IfOk result (λ told. string_bytes told.line ≡ codes "none" ++ 10 ∷ []) }
+// What goes out if there is none.
+fn tell_none(alloc: Global, json: bool) -> Result<Filed<u8>, NoMemory>
+    ensures line { IfOk result (λ told. string_bytes told.line ≡ said_none json) }
     ensures file { IfOk result (λ told. told.file.items ≡ []) }
     ensures status { IfOk result (λ told. told.verdict ≡ 0) }
 {
-    match String::from_str(alloc, "none\n") {
+    match said_none(alloc, json) {
         Ok(line) => Ok(Filed {
             verdict: 0,
             file: Vec::new(alloc),
@@ -115,17 +153,17 @@ fn tell_any(
     cycle: &Cycle,
     service: &Service,
     certificate: &Certificate,
-    save: bool,
+    asked: Asked,
 ) -> Result<Filed<u8>, NoMemory>
     requires { (fields_of certificate.now).class ≡ Any }
-    ensures { IfOk result (λ told. IsRefutation (slots_of cycle.now) service.now (fields_of certificate.now) save told.file.items
+    ensures { IfOk result (λ told. IsRefutation (slots_of cycle.now) service.now (fields_of certificate.now) asked told.file.items
         (string_bytes told.line) told.verdict) }
 {
     let pages = service.pages();
     let counter = counter_to(alloc, cycle, pages, certificate)?;
     match counter {
-        Some(counter) => tell_counter(alloc, pages, &counter, save),
-        None => tell_none(alloc),
+        Some(counter) => tell_counter(alloc, pages, &counter, asked),
+        None => tell_none(alloc, asked.json),
     }
 }
 
@@ -135,14 +173,14 @@ fn tell(
     cycle: &Cycle,
     service: &Service,
     certificate: &Certificate,
-    save: bool,
+    asked: Asked,
 ) -> Result<Filed<u8>, ToolFault>
-    ensures told { IfOk result (λ told. IsRefutation (slots_of cycle.now) service.now (fields_of certificate.now) save told.file.items
+    ensures told { IfOk result (λ told. IsRefutation (slots_of cycle.now) service.now (fields_of certificate.now) asked told.file.items
         (string_bytes told.line) told.verdict) }
     ensures fault { IfErr result (IsClassFault (fields_of certificate.now).class) }
 {
     match certificate.class() {
-        Class::Any => match tell_any(alloc, cycle, service, certificate, save) {
+        Class::Any => match tell_any(alloc, cycle, service, certificate, asked) {
             Ok(told) => Ok(told),
             Err(_) => Err(ToolFault::Files(FilesFault::NoMemory)),
         },
@@ -156,11 +194,11 @@ fn refute_text<A: Read, B: Read, C: Read>(
     cycle: &mut Counted<A>,
     service: &mut Counted<B>,
     certificate: &mut Counted<C>,
-    save: bool,
+    asked: Asked,
 ) -> Result<Filed<u8>, ToolFault>
     ensures bytes { IfSome (A.remaining (inner_of cycle.old))
         (λ a. IfSome (B.remaining (inner_of service.old)) (λ b. IfSome (C.remaining (inner_of certificate.old))
-        (λ c. RefutesText a b c save result))) }
+        (λ c. RefutesText a b c asked result))) }
     ensures faults { Reads (input AtCycle (A.remaining (inner_of cycle.old)) (faults_of cycle.old) (faults_of cycle.new)
         ∷ input AtService (B.remaining (inner_of service.old)) (faults_of service.old) (faults_of service.new)
         ∷ input AtCertificate (C.remaining (inner_of certificate.old)) (faults_of certificate.old) (faults_of certificate.new) ∷ []) result }
@@ -174,7 +212,7 @@ fn refute_text<A: Read, B: Read, C: Read>(
         &inputs.cycle,
         &inputs.service,
         &inputs.certificate,
-        save,
+        asked,
     ) {
         Ok(told) => Ok(told),
         Err(fault) => Err(fault),
@@ -182,23 +220,23 @@ fn refute_text<A: Read, B: Read, C: Read>(
 }
 
 /// Reads a packet file, the text of a service and that of a certificate, in this order, and looks for a counter-run to the
-/// certificates of class any with the numbers of this one. Where there is one, writes its text to the file if it is to be
-/// saved, and its line to the other writer: the status is 1. Where there is none, writes nothing to the file, and that there is
-/// none to the other writer: the status is 0. Of a certificate of class clearing the answer is `Class`.
+/// certificates of class any with the numbers of this one. If there is one, it writes its text to the file if it is to be
+/// saved, and its line, or its JSON object, to the other writer: the status is 1. Where there is none, writes nothing to the file, and that there is
+/// none to the other writer: the status is 0. A certificate of class clearing gives `Class`.
 ///
-/// Nothing is written before all is found. At `Write` exactly the first `written` bytes of both went out, the file's before the
-/// line's; at each other fault both writers are as they were.
+/// Nothing is written before all is found. After `Write` exactly the first `written` bytes of both went out, the file's before the
+/// line's; after any other fault both writers are unchanged.
 pub fn run<A: Read, B: Read, C: Read, O: Write, W: Write>(
     alloc: Global,
     cycle: &mut Counted<A>,
     service: &mut Counted<B>,
     certificate: &mut Counted<C>,
-    save: bool,
+    asked: Asked,
     file: &mut Counted<O>,
     writer: &mut Counted<W>,
 ) -> Result<u8, ToolFault>
     ensures bytes { IfSome (A.remaining (inner_of cycle.old))
-        (λ a. IfSome (B.remaining (inner_of service.old)) (λ b. IfSome (C.remaining (inner_of certificate.old)) (λ c. RefutesFiles a b c save
+        (λ a. IfSome (B.remaining (inner_of service.old)) (λ b. IfSome (C.remaining (inner_of certificate.old)) (λ c. RefutesFiles a b c asked
         (O.contents (inner_of file.old)) (O.contents (inner_of file.new)) (W.contents (inner_of writer.old)) (W.contents (inner_of writer.new))
         result))) }
     ensures faults { Fails (input AtCycle (A.remaining (inner_of cycle.old)) (faults_of cycle.old) (faults_of cycle.new)
@@ -207,7 +245,7 @@ pub fn run<A: Read, B: Read, C: Read, O: Write, W: Write>(
         ∷ output (faults_of file.old) (faults_of file.new) ∷ output (faults_of writer.old) (faults_of writer.new) ∷ []) result }
     ensures untouched { IsUntouched is_tool_write result file.old file.new × IsUntouched is_tool_write result writer.old writer.new }
 {
-    let told = match refute_text(alloc, cycle, service, certificate, save) {
+    let told = match refute_text(alloc, cycle, service, certificate, asked) {
         Ok(told) => told,
         Err(fault) => return Err(fault),
     };

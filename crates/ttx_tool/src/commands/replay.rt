@@ -1,9 +1,9 @@
 //! `replay`: what a viewer sees after a counter-run.
 
-ghost use Rattle.std.specs.Prelude.{◌≡◌, ◌<◌, ◌∷◌, [], Some, IfSome, IfOk, length, map, slice_get, string_bytes};
+ghost use Rattle.std.specs.Prelude.{◌≡◌, ◌<◌, ◌∷◌, [], ℕ, List, Some, IfSome, IfOk, length, map, slice_get, string_bytes};
 ghost use Rattle.ttx_files.specs.Answers.{IsUntouched};
 ghost use Rattle.ttx_files.specs.Devices.{AtCycle, AtService, AtCounter, input, output};
-ghost use Rattle.ttx_counter.specs.Counters.{counter_run_of};
+ghost use Rattle.ttx_counter.specs.Counters.{CounterRun, counter_run_of};
 ghost use Rattle.ttx_cycle.specs.Counters.{inner_of, faults_of};
 ghost use Rattle.ttx_cycle.specs.Cycles.{slots_of};
 ghost use Rattle.ttx_page.specs.Pages as definitions;
@@ -43,7 +43,7 @@ fn read_run<R: Read>(alloc: Global, reader: &mut Counted<R>) -> Result<Counter, 
     }
 }
 
-// What goes out of a counter-run of a page whose receiver holds this after it.
+// What goes out for a counter-run of a page whose receiver holds this after it.
 fn replay_text(
     alloc: Global,
     page: &Page,
@@ -80,8 +80,8 @@ fn tell_shown(
     }
 }
 
-// What goes out where there is no counter-run.
-fn tell_none(alloc: Global) -> Result<Told<u8>, NoMemory>
+/// What goes out if there is no counter-run.
+pub(super) fn tell_none(alloc: Global) -> Result<Told<u8>, NoMemory>
     ensures text { IfOk result (λ told. string_bytes told.line ≡ none_text) }
     ensures status { IfOk result (λ told. told.verdict ≡ 1) }
 {
@@ -109,16 +109,50 @@ fn tell(
     }
 }
 
-// The same of a packet file and the two texts.
-fn replay_files<A: Read, B: Read, C: Read>(
+/// Tells of a cycle, the pages of a service and what may be a counter-run. `says` is what goes out, with the status.
+pub(super) trait Teller {
+    ghost says: { Self → List (List ℕ) → List definitions.Page → CounterRun → List ℕ → ℕ → Type 0 };
+
+    /// What goes out.
+    fn tell(
+        &self,
+        alloc: Global,
+        cycle: &Cycle,
+        service: &Service,
+        counter: &Counter,
+    ) -> Result<Told<u8>, NoMemory>
+        ensures { IfOk result (λ told. says self.now (slots_of cycle.now) (pages_of service.now) (counter_run_of counter.now)
+            (string_bytes told.line) told.verdict) };
+}
+
+// Tells in words.
+struct InWords;
+
+impl Teller for InWords {
+    ghost says = { λ t. IsReplay };
+
+    fn tell(
+        &self,
+        alloc: Global,
+        cycle: &Cycle,
+        service: &Service,
+        counter: &Counter,
+    ) -> Result<Told<u8>, NoMemory> {
+        tell(alloc, cycle, service, counter)
+    }
+}
+
+// What goes out of a packet file and the two texts.
+fn replay_files<T: Teller, A: Read, B: Read, C: Read>(
     alloc: Global,
+    teller: &T,
     cycle: &mut Counted<A>,
     service: &mut Counted<B>,
     counter: &mut Counted<C>,
 ) -> Result<Told<u8>, ToolFault>
     ensures bytes { IfSome (A.remaining (inner_of cycle.old))
         (λ a. IfSome (B.remaining (inner_of service.old)) (λ b. IfSome (C.remaining (inner_of counter.old))
-        (λ c. ReplaysText a b c result))) }
+        (λ c. ReplaysText (T.says teller.now) a b c result))) }
     ensures faults { Reads (input AtCycle (A.remaining (inner_of cycle.old)) (faults_of cycle.old) (faults_of cycle.new)
         ∷ input AtService (B.remaining (inner_of service.old)) (faults_of service.old) (faults_of service.new)
         ∷ input AtCounter (C.remaining (inner_of counter.old)) (faults_of counter.old) (faults_of counter.new) ∷ []) result }
@@ -131,18 +165,46 @@ fn replay_files<A: Read, B: Read, C: Read>(
         Ok(counter) => counter,
         Err(fault) => return Err(fault),
     };
-    match tell(alloc, &inputs.cycle, &inputs.service, &counter) {
+    match teller.tell(alloc, &inputs.cycle, &inputs.service, &counter) {
         Ok(told) => Ok(told),
         Err(_) => Err(ToolFault::Files(FilesFault::NoMemory)),
     }
 }
 
+/// Reads a packet file, the text of a service and that of a counter-run, in this order, and writes the text about them.
+///
+/// Nothing is written before all is replayed. At `Write` exactly the first `written` bytes went out; at each other fault the writer is
+/// as it was.
+pub(super) fn answer<T: Teller, A: Read, B: Read, C: Read, W: Write>(
+    alloc: Global,
+    teller: &T,
+    cycle: &mut Counted<A>,
+    service: &mut Counted<B>,
+    counter: &mut Counted<C>,
+    writer: &mut Counted<W>,
+) -> Result<u8, ToolFault>
+    ensures bytes { IfSome (A.remaining (inner_of cycle.old))
+        (λ a. IfSome (B.remaining (inner_of service.old)) (λ b. IfSome (C.remaining (inner_of counter.old)) (λ c.
+        Replays (T.says teller.now) a b c (W.contents (inner_of writer.old)) (W.contents (inner_of writer.new)) result))) }
+    ensures faults { Fails (input AtCycle (A.remaining (inner_of cycle.old)) (faults_of cycle.old) (faults_of cycle.new)
+        ∷ input AtService (B.remaining (inner_of service.old)) (faults_of service.old) (faults_of service.new)
+        ∷ input AtCounter (C.remaining (inner_of counter.old)) (faults_of counter.old) (faults_of counter.new)
+        ∷ output (faults_of writer.old) (faults_of writer.new) ∷ []) result }
+    ensures untouched { IsUntouched is_tool_write result writer.old writer.new }
+{
+    let told = match replay_files(alloc, teller, cycle, service, counter) {
+        Ok(told) => told,
+        Err(fault) => return Err(fault),
+    };
+    write_text(writer, told.line.as_str(), told.verdict)
+}
+
 /// Reads a packet file, the text of a service and that of a counter-run, in this order, and writes the line of the counter-run, and
-/// each row and the links that its receiver shows otherwise than the page: the status is 0. Where it is no counter-run of the cycle
+/// each row and the links that its receiver shows differently from the page: the status is 0. If it is not a counter-run of the cycle
 /// and the service, writes a line that says so: the status is 1.
 ///
-/// Nothing is written before all is replayed. At `Write` exactly the first `written` bytes of the lines went out; at each other
-/// fault the writer is as it was.
+/// Nothing is written before all is replayed. After `Write` exactly the first `written` bytes of the lines went out; after any other
+/// fault the writer is unchanged.
 pub fn run<A: Read, B: Read, C: Read, W: Write>(
     alloc: Global,
     cycle: &mut Counted<A>,
@@ -151,7 +213,7 @@ pub fn run<A: Read, B: Read, C: Read, W: Write>(
     writer: &mut Counted<W>,
 ) -> Result<u8, ToolFault>
     ensures bytes { IfSome (A.remaining (inner_of cycle.old))
-        (λ a. IfSome (B.remaining (inner_of service.old)) (λ b. IfSome (C.remaining (inner_of counter.old)) (λ c. Replays a b c
+        (λ a. IfSome (B.remaining (inner_of service.old)) (λ b. IfSome (C.remaining (inner_of counter.old)) (λ c. Replays IsReplay a b c
         (W.contents (inner_of writer.old)) (W.contents (inner_of writer.new)) result))) }
     ensures faults { Fails (input AtCycle (A.remaining (inner_of cycle.old)) (faults_of cycle.old) (faults_of cycle.new)
         ∷ input AtService (B.remaining (inner_of service.old)) (faults_of service.old) (faults_of service.new)
@@ -159,9 +221,5 @@ pub fn run<A: Read, B: Read, C: Read, W: Write>(
         ∷ output (faults_of writer.old) (faults_of writer.new) ∷ []) result }
     ensures untouched { IsUntouched is_tool_write result writer.old writer.new }
 {
-    let told = match replay_files(alloc, cycle, service, counter) {
-        Ok(told) => told,
-        Err(fault) => return Err(fault),
-    };
-    write_text(writer, told.line.as_str(), told.verdict)
+    answer(alloc, &InWords, cycle, service, counter, writer)
 }

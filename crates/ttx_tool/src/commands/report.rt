@@ -39,7 +39,7 @@ struct Sealed {
     text: Vec<u8>,
 }
 
-// What a report is on.
+// What a report is about.
 #[derive(Drop)]
 struct Filed {
     cycle: Cycle,
@@ -169,8 +169,8 @@ fn report_text<A: Read, B: Read, C: Read>(
 /// Reads a packet file, the text of a service and that of a certificate, in this order, and writes the report on them, with the date, if
 /// one is given, as it is. The status is 0 if the verdict is yes, otherwise 1.
 ///
-/// Nothing is written before all is judged. At `Write` exactly the first `written` bytes of the document went out; at each other fault
-/// the writer is as it was.
+/// Nothing is written before all is judged. After `Write` exactly the first `written` bytes of the document went out; after any other fault
+/// the writer is unchanged.
 pub fn run<A: Read, B: Read, C: Read, W: Write>(
     alloc: Global,
     cycle: &mut Counted<A>,
@@ -195,9 +195,9 @@ pub fn run<A: Read, B: Read, C: Read, W: Write>(
     write_text(writer, told.line.as_str(), told.verdict)
 }
 
-/// Writes the line that says that a text is no date, and answers the status of the program, 2.
+/// Writes the line that says that a text is no date, and returns the status of the program, 2.
 ///
-/// At `Write` exactly the first `written` bytes of the line went out; at each other fault the writer is as it was.
+/// After `Write` exactly the first `written` bytes of the line went out; after any other fault the writer is unchanged.
 pub fn refuse_date<W: Write>(writer: &mut Counted<W>) -> Result<u8, ToolFault>
     ensures line { Reports (codes "refused: date\n") 2 (W.contents (inner_of writer.old)) (W.contents (inner_of writer.new)) result }
     ensures faults { Fails (output (faults_of writer.old) (faults_of writer.new) ∷ []) result }

@@ -73,7 +73,7 @@ fn certificate_line(alloc: Global, fault: &CertFault) -> Result<String, AllocErr
     }
 }
 
-// The line of what is said of a cycle.
+// The line about a cycle.
 fn refusal_line(alloc: Global, fault: &ExtractFault) -> Result<String, AllocError>
     ensures { IfOk result (λ line. string_bytes line ≡ codes "refused: " ++ refusal_text fault.now ++ 10 ∷ []) }
 {
@@ -83,7 +83,7 @@ fn refusal_line(alloc: Global, fault: &ExtractFault) -> Result<String, AllocErro
     Ok(line)
 }
 
-// The line of a cycle of which no service text is made.
+// The line of a cycle that has no service text.
 fn extract_line(alloc: Global, fault: &ExtractFault) -> Result<String, AllocError>
     ensures { IfOk result (λ line. string_bytes line ≡ extract_text fault.now ++ 10 ∷ []) }
 {
@@ -98,7 +98,7 @@ fn extract_line(alloc: Global, fault: &ExtractFault) -> Result<String, AllocErro
     }
 }
 
-// The line of a counter-run's text that isn't read.
+// The line of a counter-run's text that is refused.
 fn run_line(alloc: Global, fault: &CounterFileFault) -> Result<String, AllocError>
     ensures { IfOk result (λ line. string_bytes line ≡ run_text fault.now ++ 10 ∷ []) }
 {
@@ -179,7 +179,7 @@ fn service_status(fault: &SourceFault) -> u8
     }
 }
 
-// The status of the program where no service text is made of a cycle.
+// The status of the program if a cycle has no service text.
 fn extract_status(fault: &ExtractFault) -> u8
     ensures { result ≡ extract_status fault.now }
 {
@@ -190,7 +190,7 @@ fn extract_status(fault: &ExtractFault) -> u8
     }
 }
 
-// The status of the program where a counter-run's text isn't read.
+// The status of the program if a counter-run's text is refused.
 fn run_status(fault: &CounterFileFault) -> u8
     ensures { result ≡ run_status fault.now }
 {
@@ -227,7 +227,7 @@ fn status(fault: &ToolFault) -> u8
     }
 }
 
-/// Writes a text, and answers the status. At a fault the first `written` bytes of it went out.
+/// Writes a text, and returns the status. After a fault the first `written` bytes of it went out.
 pub(super) fn write_text<W: Write>(
     writer: &mut Counted<W>,
     text: &str,
@@ -243,9 +243,9 @@ pub(super) fn write_text<W: Write>(
     }
 }
 
-/// Writes the line of a fault and answers the status of the program: 2 for what is refused, 3 for a fault.
+/// Writes the line of a fault and returns the status of the program: 2 for a refusal, 3 for a fault.
 ///
-/// At `Write` exactly the first `written` bytes of the line went out; at each other fault the writer is as it was.
+/// After `Write` exactly the first `written` bytes of the line went out; after any other fault the writer is unchanged.
 pub fn report_fault<W: Write>(
     alloc: Global,
     fault: &ToolFault,
@@ -261,9 +261,9 @@ pub fn report_fault<W: Write>(
     write_text(writer, line.as_str(), status(fault))
 }
 
-/// Writes the line that says why no service text is made of a cycle and answers the status of the program.
+/// Writes the line that says why a cycle has no service text, and returns the status of the program.
 ///
-/// At `Write` exactly the first `written` bytes of the line went out; at each other fault the writer is as it was.
+/// After `Write` exactly the first `written` bytes of the line went out; after any other fault the writer is unchanged.
 pub fn report_extraction<W: Write>(
     alloc: Global,
     fault: &ExtractFault,
@@ -291,9 +291,9 @@ fn refused_air<'a>(refusal: AirRefusal) -> &'a str
     }
 }
 
-/// Writes the line that says why nothing is sent, and answers the status of the program, 2.
+/// Writes the line that says why nothing is sent, and returns the status of the program, 2.
 ///
-/// At `Write` exactly the first `written` bytes of the line went out; at each other fault the writer is as it was.
+/// After `Write` exactly the first `written` bytes of the line went out; after any other fault the writer is unchanged.
 pub fn report_air<W: Write>(refusal: AirRefusal, writer: &mut Counted<W>) -> Result<u8, ToolFault>
     ensures line { Reports (air_line refusal) 2 (W.contents (inner_of writer.old)) (W.contents (inner_of writer.new)) result }
     ensures faults { Fails (output (faults_of writer.old) (faults_of writer.new) ∷ []) result }
@@ -302,9 +302,9 @@ pub fn report_air<W: Write>(refusal: AirRefusal, writer: &mut Counted<W>) -> Res
     write_text(writer, refused_air(refusal), 2)
 }
 
-/// Writes why words are refused and answers the status of the program. Of what `clap` refuses its own text is written.
+/// Writes why arguments are refused, and returns the status of the program. If `clap` refuses them, its own text is written.
 ///
-/// At `Write` exactly the first `written` bytes of the text went out; at each other fault the writer is as it was.
+/// After `Write` exactly the first `written` bytes of the text went out; after any other fault the writer is unchanged.
 pub fn report_words<W: Write>(
     alloc: Global,
     fault: &WordsFault,
@@ -329,6 +329,7 @@ pub fn report_words<W: Write>(
         WordsFault::Numbers => write_text(writer, "refused: numbers\n", 2),
         WordsFault::Clocks => write_text(writer, "refused: clocks\n", 2),
         WordsFault::Twice => write_text(writer, "refused: twice\n", 2),
+        WordsFault::Forms => write_text(writer, "refused: forms\n", 2),
         WordsFault::Apart(conflict) => {
             let Ok(line) = conflict_line(alloc, *conflict) else {
                 return Err(ToolFault::Files(FilesFault::NoMemory));

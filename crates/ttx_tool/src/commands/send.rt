@@ -15,11 +15,11 @@ use ttx_cycle::{Counted, WriteFault};
 use ttx_files::{FilesFault, read_packets};
 use ttx_send::Clock;
 
-/// Reads a packet file, and sends the cycle again and again, with the time that the clock shows: as many fields as `sending` says, from the
-/// field of the repeated cycle on and with the lines that it says.
+/// Reads a packet file, and sends the cycle again and again, with the time of the clock: as many fields as `sending` says, from its
+/// field of the repeated cycle on and with its lines.
 ///
-/// Nothing is written before the whole file is read, and sending takes no memory. At `Write` exactly the first `written` bytes
-/// of the fields went out; at each other fault the writer is as it was.
+/// Nothing is written before the whole file is read, and sending takes no memory. After `Write` exactly the first `written` bytes
+/// of the fields went out; after any other fault the writer is unchanged.
 pub fn run<C: Clock, R: Read, W: Write>(
     alloc: Global,
     reader: &mut Counted<R>,

@@ -24,7 +24,7 @@ use ttx_picture::push_picture;
 use ttx_receiver::{Careful, Cleared, Eager, Receiver};
 use ttx_render::{View, render};
 
-// That no page of this name is there.
+// The line that says that there is no such page.
 pub(super) fn no_page_line(alloc: Global, name: &str) -> Result<String, AllocError>
     ensures { IfOk result (λ text. string_bytes text ≡ no_page_line name.now) }
 {
@@ -86,12 +86,12 @@ fn show_by<R: Read, X: Receiver + Drop, W: Write>(
     }
 }
 
-/// Reads a packet file, gives a receiver of the kind that is asked for, which has received nothing before, the slots that the tuning
-/// says, counted round the cycle, and writes the View of what it then holds, as it is asked for: the status is 0. Where no header of
-/// the page came, writes a line that says so: the status is 1.
+/// Reads a packet file, gives the slots of the tuning to a receiver of the kind that is asked for, which has received nothing before,
+/// round the cycle, and writes the View of what it then holds, as it is asked for: the status is 0. If no header of
+/// the page came, it writes a line that says so: the status is 1.
 ///
-/// Nothing is written before the whole file is read. At `Write` exactly the first `written` bytes of the text went out; at each
-/// other fault the writer is as it was.
+/// Nothing is written before the whole file is read. After `Write` exactly the first `written` bytes of the text went out; after any
+/// other fault the writer is unchanged.
 pub fn run<R: Read, W: Write>(
     alloc: Global,
     reader: &mut Counted<R>,

@@ -24,10 +24,10 @@ fn splice_status(verdict: SpliceVerdict) -> u8
 }
 
 /// Reads two packet files, two service definitions and two certificates, in this order, the old one of each kind first, judges the
-/// change from the old cycle to the new one, and writes the line of the verdict: the status is 0 where it is Yes, else 1.
+/// change from the old cycle to the new one, and writes the line of the verdict: the status is 0 if it is yes, otherwise 1.
 ///
-/// Nothing is written before all is judged. At `Write` exactly the first `written` bytes of the line went out; at each other
-/// fault the writer is as it was.
+/// Nothing is written before all is judged. After `Write` exactly the first `written` bytes of the line went out; after any other
+/// fault the writer is unchanged.
 pub fn run<A: Read, B: Read, C: Read, D: Read, E: Read, F: Read, W: Write>(
     alloc: Global,
     old: &mut Counted<A>,

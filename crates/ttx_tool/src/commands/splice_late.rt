@@ -1,4 +1,4 @@
-//! `splice --late`: the change from an old cycle to a new one, for receivers that show a page only where it ends, too.
+//! `splice --late`: the change from an old cycle to a new one, also for receivers that show a page only where it ends.
 
 ghost use Rattle.std.specs.Prelude.{◌≡◌, ◌∷◌, []};
 ghost use Rattle.ttx_cycle.specs.Counters.{inner_of, faults_of};
@@ -26,9 +26,9 @@ fn late_splice_status(verdict: LateSplice) -> u8
     }
 }
 
-/// Reads the six files of a splice, as `splice::run`, judges it for receivers that show a page only where it ends, too, and writes the
-/// line of the verdict. `sent` is the number of periods for which the old cycle has been on the air; without it nothing is asked of how
-/// long it has been. The status is 0 if the verdict is yes, otherwise 1.
+/// Reads the six files of a splice, as `splice::run`, judges it also for receivers that show a page only where it ends, and writes the
+/// line of the verdict. `sent` is the number of periods for which the old cycle has been on the air; without it, it may have been there for
+/// any time. The status is 0 if the verdict is yes, otherwise 1.
 ///
 /// Nothing is written before all files are judged. After `Write` exactly the first `written` bytes of the line went out; after any other
 /// fault the writer is unchanged.

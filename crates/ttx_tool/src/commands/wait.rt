@@ -22,7 +22,7 @@ use ttx_source::Service;
 use ttx_wait::{Detail, report_with};
 use ttx_witness::NoMemory;
 
-// For receivers of which class, with which repeat count, and in which lines it is told.
+// For receivers of which class, with which repeat count, and in which lines.
 #[derive(Clone, Copy)]
 pub(super) struct Question {
     pub repeat: u8,
@@ -30,7 +30,8 @@ pub(super) struct Question {
     pub detail: Detail,
 }
 
-fn wait_status(deadline: Option<u32>) -> u8
+/// 0 if there is a deadline, otherwise 1.
+pub(super) fn wait_status(deadline: Option<u32>) -> u8
     ensures { result ≡ wait_status deadline }
 {
     match deadline {
@@ -39,7 +40,7 @@ fn wait_status(deadline: Option<u32>) -> u8
     }
 }
 
-// What is told of a cycle and a service.
+// The lines for a cycle and a service.
 fn tell(
     alloc: Global,
     cycle: &Cycle,
@@ -77,7 +78,7 @@ fn shows_promises(count: usize, detail: Detail) -> bool
     }
 }
 
-// What is told of a cycle and a service beside its promises.
+// The lines for a cycle and a service, beside its promises.
 fn tell_promised(
     alloc: Global,
     cycle: &Cycle,
@@ -108,7 +109,7 @@ fn tell_promised(
     })
 }
 
-// What is told of a cycle and a service, which may have promises.
+// The lines for a cycle and a service, which may have promises.
 pub(super) fn tell_beside(
     alloc: Global,
     cycle: &Cycle,
@@ -157,8 +158,8 @@ fn wait_text<A: Read, B: Read>(
 /// are asked for, the waits stand beside them, and a last line has the pages that are not in the service. The status is 0 if there is a
 /// deadline for all pages and none comes too late for its promise, otherwise 1.
 ///
-/// Nothing is written before all is told. At `Write` exactly the first `written` bytes of the lines went out; at each other
-/// fault the writer is as it was.
+/// Nothing is written before all lines are known. After `Write` exactly the first `written` bytes of the lines went out; after any other
+/// fault the writer is unchanged.
 pub fn run<A: Read, B: Read, W: Write>(
     alloc: Global,
     cycle: &mut Counted<A>,

@@ -35,7 +35,7 @@ fn joined(waits: Told<u8>, numbers: &str) -> Result<Told<u8>, NoMemory>
     }
 }
 
-// What is told of a cycle and a service, which may have promises, and of its numbers.
+// The lines for a cycle and a service, which may have promises, and for its numbers.
 fn tell(alloc: Global, inputs: &PromisedInputs, question: Question) -> Result<Told<u8>, NoMemory>
     requires some { 1 ≤ question.repeat }
     requires few { question.repeat ≤ 8 }
@@ -75,8 +75,8 @@ fn numbers_text<A: Read, B: Read>(
 /// Reads a packet file and the text of a service, and writes what `wait::run` writes, and behind it the lines of the numbers with several
 /// pages: for how many seconds each of their subpages is shown, and within how many it comes again. The status is that of `wait::run`.
 ///
-/// Nothing is written before all is told. At `Write` exactly the first `written` bytes of the lines went out; at each other fault the
-/// writer is as it was.
+/// Nothing is written before all lines are known. After `Write` exactly the first `written` bytes of the lines went out; after any other fault the
+/// writer is unchanged.
 pub fn run<A: Read, B: Read, W: Write>(
     alloc: Global,
     cycle: &mut Counted<A>,

@@ -11,7 +11,7 @@ author_read : (name bytes : List ℕ) (answer : Result Standing FilesFault) → 
 author_read name bytes (Ok (Text text)) is reads = subst (λ b. IsTextBy b bytes text.items) (sym is) reads
 author_read name bytes (Ok (Lines lines)) is reads = (is, reads)
 author_read name bytes (Err (Cycle f)) is reads = absurd reads
-author_read name bytes (Err (Service error)) is reads = (is, reads)
+author_read name bytes (Err (Service error)) is reads = absurd reads
 author_read name bytes (Err (Certificate f)) is reads = absurd reads
 author_read name bytes (Err (Read f)) is reads = absurd reads
 author_read name bytes (Err (TooLong f)) is reads = absurd reads

@@ -1,6 +1,5 @@
 use Rattle.std.proofs.Common.{subst}
 use Rattle.ttx_air.specs.Newsrooms.{candidate_of}
-use Rattle.ttx_newsroom.specs.TextNewsrooms.{IsNew}
 use Rattle.ttx_press.specs.Openings.{IsOpening}
 use Rattle.ttx_broadcast.specs.Broadcasts.{outs_of, wish_of, Begun}
 use Rattle.ttx_broadcast.proofs.BroadcastSteps.{broadcasts_as}
@@ -23,6 +22,6 @@ returns g c =
       first = first;
       opening = subst (λ text. IsOpening wish.demand text house first) c.deref.ensures.value c.in_ok-opening.ensures;
       newsroom = newsroom;
-      is_new = subst (λ text. IsNew c.first_text.new.source house text newsroom) c.deref-2.ensures.value c.new-newsroom.ensures;
+      is_new = c.new-newsroom.ensures;
     } in
     broadcasts_as reads wish c.args.source begun c.sent.new.newsroom before after c.sent.result c.sent.ensures

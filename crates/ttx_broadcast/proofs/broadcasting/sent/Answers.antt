@@ -2,7 +2,8 @@ use Rattle.std.proofs.Common.{◌≡◌, refl, sym, subst}
 use Rattle.ttx_cycle.specs.Cycles.{slots_of-IsCycle}
 use Rattle.ttx_air.specs.Newsrooms.{candidate_of}
 use Rattle.ttx_air.specs.Airings.{written_of, Logs}
-use Rattle.ttx_broadcast.specs.Broadcasts.{text_gives, outs_of, wish_of, line_in, Sends}
+use Rattle.ttx_press.specs.Presses.{text_gives}
+use Rattle.ttx_broadcast.specs.Broadcasts.{outs_of, wish_of, line_in, Sends}
 use Rattle.ttx_broadcast.proofs.BroadcastSteps.{sends_as}
 use Rattle.ttx_broadcast.proofs.PossibleEndings.{may_end}
 use Rattle.ttx_broadcast.proofs.broadcasting.sent.Goals as goal

@@ -4,8 +4,9 @@ use Rattle.std.proofs.lemmas.Bool.{cases_eq}
 use Rattle.std.proofs.lemmas.List.{length-map}
 use Rattle.std.proofs.lemmas.Option.{slice_get_within}
 use Rattle.ttx_page.specs.Views.{page_of}
-use Rattle.ttx_carousel.specs.Layout.{share_number}
-use Rattle.ttx_carousel.proofs.CarouselLayout.{value_there, same_one, first_at}
+use Rattle.ttx_numbers.specs.Numbers.{share_number}
+use Rattle.ttx_numbers.proofs.NumberedPages.{value_there}
+use Rattle.ttx_carousel.proofs.CarouselLayout.{same_one, first_at}
 use Rattle.ttx_carousel.proofs.layout.first_of.Goals as goal
 
 pub loop-index-preserved : goal.loop-index-preserved

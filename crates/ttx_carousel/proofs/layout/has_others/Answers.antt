@@ -3,7 +3,7 @@ use Rattle.std.specs.Prelude.{not}
 use Rattle.ttx_page.specs.Views.{page_of}
 use Rattle.ttx_source.specs.PromiseViews.{promise_view}
 use Rattle.ttx_carousel.specs.Layout.{has_stays}
-use Rattle.ttx_carousel.proofs.CarouselLayout.{any_of_map}
+use Rattle.ttx_numbers.proofs.NumberedPages.{any_of_map}
 use Rattle.ttx_carousel.proofs.layout.has_others.Goals as goal
 
 pub returns : goal.returns

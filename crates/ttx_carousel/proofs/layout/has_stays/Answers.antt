@@ -2,7 +2,7 @@ use Rattle.std.proofs.Common.{map, ◌∙◌}
 use Rattle.ttx_page.specs.Views.{page_of}
 use Rattle.ttx_source.specs.PromiseViews.{promise_view}
 use Rattle.ttx_carousel.specs.Layout.{is_stay_of}
-use Rattle.ttx_carousel.proofs.CarouselLayout.{any_of_map}
+use Rattle.ttx_numbers.proofs.NumberedPages.{any_of_map}
 use Rattle.ttx_carousel.proofs.layout.has_stays.Goals as goal
 
 pub returns : goal.returns

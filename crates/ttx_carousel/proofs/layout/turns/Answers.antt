@@ -3,7 +3,7 @@ use Rattle.std.proofs.lemmas.List.{length-map}
 use Rattle.ttx_page.specs.Views.{page_of}
 use Rattle.ttx_source.specs.PromiseViews.{promise_view}
 use Rattle.ttx_carousel.specs.Layout.{turns_among, turns_at, greater}
-use Rattle.ttx_carousel.proofs.CarouselLayout.{value_there}
+use Rattle.ttx_numbers.proofs.NumberedPages.{value_there}
 use Rattle.ttx_carousel.proofs.layout.turns.Goals as goal
 
 pub loop-index-preserved : goal.loop-index-preserved

@@ -1,6 +1,6 @@
 use Rattle.std.proofs.Common.{◌≡◌, ◌∙◌, ◌++◌, codes, string_bytes, append_assoc, subst, ap}
 use Rattle.std.specs.Prelude.{OnOk}
-use Rattle.ttx_subpages.specs.NumberReports.{number_text}
+use Rattle.ttx_numbers.specs.Numbers.{number_text}
 use Rattle.ttx_carousel.specs.StayLines.{number_words}
 use Rattle.ttx_carousel.proofs.lines.push_name.Goals as goal
 

@@ -9,8 +9,8 @@ unfolding unlike_text
 returns c =
     let numbers = unlike_numbers c.args.own.now.cells 0 c.args.shown.now.cells in
     let links = links_words (unlike_links c.args.shown.now.links c.args.own.now.links) in
-    let head = codes "It shows otherwise, marked below:" in
-    joined c.push_words-2.result _ _ _ (head ++ numbers ++ links) (codes ".")
+    let head = codes "It shows otherwise:" in
+    joined c.push_words-2.result _ _ _ (head ++ numbers ++ links) (codes " as marked below.")
     (more _ _ _ (head ++ numbers) links (more _ _ _ head numbers c.in_ok-push_words.ensures c.in_ok-push_numbers.ensures)
     (c.in_ok-push_links_words.ensures ∙ ap (λ b. string_bytes c.push_numbers.new.text ++ links_words b) c.unlike_links.ensures))
     c.push_words-2.ensures

@@ -1,23 +1,12 @@
 use Rattle.std.proofs.Common.{◌≡◌, ℕ, ◌||◌, not, Bool, true, false, if◌then◌else◌, refl, sym, ◌∙◌, arith}
-use lib.Pointwise.{bytes_decides}
-use Rattle.ttx_packet.specs.Slots.{is_empty, kind_of}
-use Rattle.ttx_monitor.specs.Totals.{compared_bytes, wrong_bits_at}
-use Rattle.ttx_monitor.proofs.WrongBytes.{no_bits_in, first_sum, next_sum}
+use Rattle.ttx_packet.specs.Slots.{is_empty}
+use Rattle.ttx_monitor.specs.Totals.{wrong_bits_at}
+use Rattle.ttx_monitor.proofs.WrongBytes.{first_sum, next_sum}
 use Rattle.ttx_monitor.proofs.comparing.wrong_bits.Goals as goal
-
-unsummed : (b : Bool) (n : ℕ) → n ≡ 0 → 0 ≡ (if b then 0 else n)
-unsummed true n e = refl
-unsummed false n e = sym e
 
 uncounted : (b : Bool) (n : ℕ) → not b ≡ false → 0 ≡ (if b then 0 else n)
 uncounted true n e = refl
 uncounted false n e = cc
-
-pub returns-then-eq : goal.returns-then-eq
-returns-then-eq c =
-    let s = c.args.sent.now in
-    let r = c.args.received.now in
-    unsummed (is_empty s || is_empty r) _ (no_bits_in s r ((bytes_decides r s).0 (sym c.if-eq.ensures)) (compared_bytes (kind_of s)))
 
 pub returns-then-not-has_bits : goal.returns-then-not-has_bits
 returns-then-not-has_bits c = uncounted (is_empty c.args.sent.now || is_empty c.args.received.now) _ (sym c.has_bits.ensures ∙ c.if-not-has_bits.true)

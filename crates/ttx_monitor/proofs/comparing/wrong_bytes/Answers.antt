@@ -1,12 +1,8 @@
 use Rattle.std.proofs.Common.{◌+◌, sym, ap, ◌∙◌, arith}
-use lib.Pointwise.{bytes_decides}
 use Rattle.ttx_monitor.specs.Totals.{is_wrong}
-use Rattle.ttx_monitor.proofs.WrongBytes.{none_in, none_before, passed, failed, differs_at, same_at}
+use Rattle.ttx_monitor.proofs.WrongBytes.{none_before, passed, failed, differs_at, same_at}
 use Rattle.ttx_monitor.proofs.comparing.wrong_bytes.Goals as goal
 use Rattle.ttx_monitor.proofs.comparing.wrong_bytes.Goals.{then-received-x, else-received-x}
-
-pub returns-then-eq : goal.returns-then-eq
-returns-then-eq c = sym (none_in c.args.sent.now c.args.received.now ((bytes_decides c.args.received.now c.args.sent.now).0 (sym c.if-eq.ensures)))
 
 pub loop-x-init : goal.loop-x-init
 loop-x-init c = record { few = omega arith; counted = sym (none_before (is_wrong c.args.sent.now c.args.received.now)) }

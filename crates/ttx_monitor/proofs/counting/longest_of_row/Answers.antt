@@ -1,13 +1,8 @@
 use Rattle.std.proofs.Common.{◌+◌, ◌*◌, sym, ap, ◌∙◌, subst}
-use lib.Pointwise.{bytes_decides}
 use Rattle.ttx_monitor.specs.Streaks.{IsLargestIn}
 use Rattle.ttx_monitor.proofs.FeedStreaks.{bounds}
-use Rattle.ttx_monitor.proofs.LongestStreaks.{unchanged, placed}
+use Rattle.ttx_monitor.proofs.LongestStreaks.{placed}
 use Rattle.ttx_monitor.proofs.counting.longest_of_row.Goals as goal
-
-pub returns-then-eq : goal.returns-then-eq
-returns-then-eq c = λ w table feed cyc t is sent a l.
-    unchanged w table feed c.args.pair.now.received.now c.args.longest ((bytes_decides c.args.pair.now.received.now c.args.pair.now.sent.now).0 (sym c.if-eq.ensures) ∙ sent) l
 
 pub returns : goal.returns
 returns c = λ w table feed cyc t is sent a l.

@@ -21,6 +21,7 @@ returns-in-End-clause-is c = λ pages cert bytes are is_cert heard.
       counted = lost.1;
       lost_are = lost.2;
       seen = λ accepts reached. c.within_is_seen_by_rows.ensures w h.feed cert (slots_of-IsCycle c.args.cycle.now) are is_cert refl accepts h.within reached;
+      shown = λ accepts. c.within_is_shown_by_rows.ensures w h.feed cert (slots_of-IsCycle c.args.cycle.now) are is_cert refl accepts h.within;
     }
 
 pub returns-in-Broken-clause-is : goal.returns-in-Broken-clause-is

@@ -3,7 +3,7 @@ use Rattle.std.specs.Prelude.{not}
 use Rattle.ttx_page.specs.Views.{page_of}
 use Rattle.ttx_source.specs.PromiseViews.{promise_view}
 use Rattle.ttx_stays.specs.ShortNumbers.{keeps}
-use Rattle.ttx_stays.proofs.NumberedPages.{any_of_map}
+use Rattle.ttx_numbers.proofs.NumberedPages.{any_of_map}
 use Rattle.ttx_stays.proofs.short_numbers.is_unkept.Goals as goal
 
 pub returns : goal.returns

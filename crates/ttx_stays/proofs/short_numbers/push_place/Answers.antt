@@ -1,6 +1,6 @@
 use Rattle.std.proofs.Common.{◌≡◌, ◌∙◌, ◌++◌, codes, string_bytes, append_assoc, subst, ap}
 use Rattle.std.specs.Prelude.{OnOk}
-use Rattle.ttx_stays.specs.Numbers.{number_text}
+use Rattle.ttx_numbers.specs.Numbers.{number_text}
 use Rattle.ttx_stays.specs.ShortNumbers.{place_text}
 use Rattle.ttx_stays.proofs.short_numbers.push_place.Goals as goal
 

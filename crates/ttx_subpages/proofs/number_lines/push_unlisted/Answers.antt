@@ -1,5 +1,6 @@
 use Rattle.std.proofs.Common.{◌≡◌, ◌++◌, ◌∙◌, OnOk, string_bytes, codes, ap, subst, append_assoc}
-use Rattle.ttx_subpages.specs.NumberReports.{number_text, slot_text}
+use Rattle.ttx_numbers.specs.Numbers.{number_text}
+use Rattle.ttx_subpages.specs.NumberReports.{slot_text}
 use Rattle.ttx_subpages.proofs.number_lines.push_unlisted.Goals as goal
 
 pub returns : goal.returns

@@ -1,16 +1,12 @@
-use Rattle.std.proofs.Common.{◌≡◌, ◌↔◌, ◌+◌, ◌%◌, ◌<◌, ◌≤◌, length, get_or, not, ◌++◌, ◌∷◌, [], None, sym, ap, ◌∙◌, subst, arith}
+use Rattle.std.proofs.Common.{◌≡◌, ◌↔◌, ◌+◌, ◌%◌, ◌<◌, ◌≤◌, length, get_or, not, ◌++◌, ◌∷◌, [], None, refl, sym, ap, ◌∙◌, subst, arith}
 use Rattle.std.specs.Option.{is_some}
 use Rattle.std.proofs.lemmas.Bool.{both_ways, not-false}
-use Rattle.std.proofs.lemmas.Nat.{mod_below}
 use Rattle.std.proofs.lemmas.List.{length_push}
-use Rattle.ttx_cycle.specs.Cycles.{slots_of-IsCycle}
-use Rattle.ttx_monitor.specs.Watching.{sent_at, IsWithin}
-use Rattle.ttx_monitor.specs.Streaks.{place_at}
+use Rattle.ttx_monitor.specs.Watching.{IsWithin}
 use Rattle.ttx_monitor.specs.Breaches.{IsSlotJudged, IsHeard}
 use Rattle.ttx_monitor.specs.Totals.{wrong_in, wrong_bytes}
 use Rattle.ttx_monitor.proofs.WrongBytes.{wrong_more}
-use Rattle.ttx_counter.proofs.SentRows.{slot_at}
-use Rattle.ttx_monitor.proofs.FeedStreaks.{turn_next}
+use Rattle.ttx_monitor.proofs.DueSlots.{some_slots, due_place, due_slot, next_at}
 use Rattle.ttx_monitor.proofs.HeardSlot.{heard, fine_kept, kept_fine, kept_old, none_told, first_breach}
 use Rattle.ttx_monitor.proofs.monitor.Monitor.hear.Goals as goal
 use Rattle.ttx_monitor.proofs.monitor.Monitor.hear.Goals.{then-self, else-self}
@@ -21,27 +17,17 @@ returns-clause-stands c = λ w feed st.
     let n = length feed in
     let table = m.table.items in
     let slot = c.args.slot.now in
-    let cyc : 0 < length w.cycle = subst (λ l. 0 < length l) st.cycle (slots_of-IsCycle m.cycle.now).some in
-    let inside : m.at < length w.cycle = subst (λ z. z < length w.cycle) (sym st.at) (mod_below (w.start + n) (length w.cycle) cyc) in
-    let place : c.place_at-place.result ≡ place_at w table n =
-    c.place_at-place.ensures ∙ ap (λ l. get_or l m.at None) c.as_slice.ensures.value ∙ ap (λ z. get_or table z None) st.at in
-    let sent : c.slot_at-sent.result.now ≡ sent_at w n =
-    c.slot_at-sent.ensures.is (subst (λ l. m.at < length l) (sym st.cycle) inside) ∙ ap (λ l. get_or l m.at []) st.cycle
-    ∙ sym (slot_at w.cycle w.start n m.at st.at) in
+    let cyc = some_slots m w feed st in
+    let place = due_place m w feed st c.place_at-place.result (c.place_at-place.ensures ∙ ap (λ l. get_or l m.at None) c.as_slice.ensures.value) in
+    let sent = due_slot m w feed st c.slot_at-sent.result.now c.slot_at-sent.ensures.is in
     let some : 1 ≤ m.repeat = subst (λ z. 1 ≤ z) (sym st.repeat) st.some in
     let noted = c.note-repeated.ensures.noted w table feed (sym st.repeat) some cyc st.table place sent st.streaks in
     let judged = subst (λ s. IsSlotJudged s slot c.slot_breach.result) sent c.slot_breach.ensures in
-    let slots : c.slots.result.now ≡ w.cycle = c.slots.ensures.slots ∙ st.cycle in
-    let grown : w.start + n + 1 ≡ w.start + length (feed ++ slot ∷ []) = let l = length_push feed slot in omega arith in
     record {
       cycle = st.cycle;
       repeat = st.repeat;
       some = st.some;
-      at = c.next-self.ensures (subst (λ l. m.at < length l) (sym slots) inside)
-          ∙ ap (λ l. (m.at + 1) % length l) slots
-          ∙ ap (λ z. (z + 1) % length w.cycle) st.at
-          ∙ turn_next (w.start + n) (length w.cycle) cyc
-          ∙ ap (λ z. z % length w.cycle) grown;
+      at = next_at m w feed st c.slots.result.now (c.slots.ensures.slots ∙ st.cycle) slot c.next-self.result c.next-self.ensures;
       table = st.table;
       streaks = c.note-repeated.ensures.streaks w table feed (sym st.repeat) cyc st.table place sent st.streaks;
       longest = c.longest_with-self.ensures w table feed cyc st.table place sent
@@ -80,13 +66,9 @@ returns-clause-heard c = λ w feed st.
     let n = length feed in
     let table = m.table.items in
     let slot = c.args.slot.now in
-    let cyc : 0 < length w.cycle = subst (λ l. 0 < length l) st.cycle (slots_of-IsCycle m.cycle.now).some in
-    let inside : m.at < length w.cycle = subst (λ z. z < length w.cycle) (sym st.at) (mod_below (w.start + n) (length w.cycle) cyc) in
-    let place : c.place_at-place.result ≡ place_at w table n =
-    c.place_at-place.ensures ∙ ap (λ l. get_or l m.at None) c.as_slice.ensures.value ∙ ap (λ z. get_or table z None) st.at in
-    let sent : c.slot_at-sent.result.now ≡ sent_at w n =
-    c.slot_at-sent.ensures.is (subst (λ l. m.at < length l) (sym st.cycle) inside) ∙ ap (λ l. get_or l m.at []) st.cycle
-    ∙ sym (slot_at w.cycle w.start n m.at st.at) in
+    let cyc = some_slots m w feed st in
+    let place = due_place m w feed st c.place_at-place.result (c.place_at-place.ensures ∙ ap (λ l. get_or l m.at None) c.as_slice.ensures.value) in
+    let sent = due_slot m w feed st c.slot_at-sent.result.now c.slot_at-sent.ensures.is in
     let some : 1 ≤ m.repeat = subst (λ z. 1 ≤ z) (sym st.repeat) st.some in
     subst (IsHeard w feed slot) (sym c.first_told-breach.ensures)
     (heard c.rows_are_numbered.ensures c.each_slot_turns.ensures c.streams_move.ensures c.streaks_decide.ensures w cyc st.some table st.table
@@ -100,16 +82,25 @@ returns-clause-first c = λ w feed st within.
     let n = length feed in
     let table = m.table.items in
     let slot = c.args.slot.now in
-    let cyc : 0 < length w.cycle = subst (λ l. 0 < length l) st.cycle (slots_of-IsCycle m.cycle.now).some in
-    let inside : m.at < length w.cycle = subst (λ z. z < length w.cycle) (sym st.at) (mod_below (w.start + n) (length w.cycle) cyc) in
-    let place : c.place_at-place.result ≡ place_at w table n =
-    c.place_at-place.ensures ∙ ap (λ l. get_or l m.at None) c.as_slice.ensures.value ∙ ap (λ z. get_or table z None) st.at in
-    let sent : c.slot_at-sent.result.now ≡ sent_at w n =
-    c.slot_at-sent.ensures.is (subst (λ l. m.at < length l) (sym st.cycle) inside) ∙ ap (λ l. get_or l m.at []) st.cycle
-    ∙ sym (slot_at w.cycle w.start n m.at st.at) in
+    let cyc = some_slots m w feed st in
+    let place = due_place m w feed st c.place_at-place.result (c.place_at-place.ensures ∙ ap (λ l. get_or l m.at None) c.as_slice.ensures.value) in
+    let sent = due_slot m w feed st c.slot_at-sent.result.now c.slot_at-sent.ensures.is in
     let some : 1 ≤ m.repeat = subst (λ z. 1 ≤ z) (sym st.repeat) st.some in
     subst (λ o. (o ≡ None) ↔ IsWithin w (feed ++ slot ∷ [])) (sym c.first_told-breach.ensures)
     (first_breach c.rows_are_numbered.ensures c.each_slot_turns.ensures c.streams_move.ensures c.streaks_decide.ensures w cyc st.some table st.table
     feed slot within c.slot_breach.result c.note-repeated.result
     (subst (λ s. IsSlotJudged s slot c.slot_breach.result) sent c.slot_breach.ensures)
     (c.note-repeated.ensures.noted w table feed (sym st.repeat) some cyc st.table place sent st.streaks))
+
+pub returns-then-is_right-clause-stands : goal.returns-then-is_right-clause-stands
+returns-then-is_right-clause-stands c = λ w feed st.
+    c.hear_right.ensures.stands w feed c.args.slot.now st (c.is_right.ensures w feed st c.if-is_right.true)
+
+pub returns-then-is_right-clause-heard : goal.returns-then-is_right-clause-heard
+returns-then-is_right-clause-heard c = λ w feed st.
+    c.hear_right.ensures.heard w feed c.args.slot.now st (c.is_right.ensures w feed st c.if-is_right.true)
+
+pub returns-then-is_right-clause-first : goal.returns-then-is_right-clause-first
+returns-then-is_right-clause-first c = λ w feed st within.
+    let heard = c.hear_right.ensures.heard w feed c.args.slot.now st (c.is_right.ensures w feed st c.if-is_right.true) in
+    ((λ _. heard.2 within), (λ _. refl))

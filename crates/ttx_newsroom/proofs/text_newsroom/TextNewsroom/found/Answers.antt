@@ -1,4 +1,4 @@
-use Rattle.std.proofs.Common.{Ok, Err, subst, sym}
+use Rattle.std.proofs.Common.{Ok, Err, subst}
 use Rattle.ttx_newsroom.specs.TextNewsrooms.{reading_of}
 use Rattle.ttx_newsroom.proofs.text_newsroom.TextNewsroom.found.Goals as goal
 
@@ -6,8 +6,7 @@ pub returns-in-Ok : goal.returns-in-Ok
 returns-in-Ok g c =
     let reads = g.S.TextSource.reads in
     let read = subst (λ r. reads c.args.self.now.source (reading_of r) c.text.new.self) c.in-Ok.is c.text.ensures in
-    let seen = subst (λ t. reads c.args.self.now.source (Ok t) c.text.new.self) (sym c.as_slice.ensures.value) read in
-    (Ok c.as_slice.result.now, (c.text.new.self, seen, c.read.ensures))
+    (Ok c.in-Ok.text.items, (c.text.new.self, read, c.read.ensures))
 
 pub returns-in-Err : goal.returns-in-Err
 returns-in-Err g c =

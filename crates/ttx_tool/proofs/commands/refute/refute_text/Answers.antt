@@ -17,7 +17,7 @@ returns-in-Ok-tell-clause-bytes g c =
     known (g.A.Read.remaining (inner_of c.args.cycle.now) ∷ g.B.Read.remaining (inner_of c.args.service.now)
     ∷ g.C.Read.remaining (inner_of c.args.certificate.now) ∷ [])
     (λ xs. IsPacketFile (first xs) (slots_of inputs.cycle) × IsServiceText (second xs) inputs.service × IsCertificateText (third xs) w)
-    (λ xs. IsRefutingFiles (first xs) (second xs) (third xs) c.args.save told.file.items (string_bytes told.line) told.verdict)
+    (λ xs. IsRefutingFiles (first xs) (second xs) (third xs) c.args.asked told.file.items (string_bytes told.line) told.verdict)
     (λ xs is. record {
       slots = slots_of inputs.cycle;
       service = inputs.service;

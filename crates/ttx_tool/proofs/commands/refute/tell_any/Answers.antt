@@ -8,7 +8,7 @@ use Rattle.ttx_cycle.specs.Cycles.{slots_of}
 use Rattle.ttx_page.specs.Pages as definitions
 use Rattle.ttx_page.specs.Views.{page_of}
 use Rattle.ttx_page.specs.declared.class.Class.TheVariants.{Any}
-use Rattle.ttx_tool.specs.Refute.{counter_line, saved, IsRefutation}
+use Rattle.ttx_tool.specs.Refute.{said_counter, said_none, saved, IsRefutation}
 use Rattle.ttx_tool.proofs.ServiceIds.{distinct_ids}
 use Rattle.ttx_tool.proofs.ThreeInputs.{all_three, refutation}
 use Rattle.ttx_witness.specs.Certificates.{fields_of, certificate_of}
@@ -37,12 +37,12 @@ returns-in-Some c =
     let told = subst (TellsCounter counter_run_of slots pages w) c.in-Some.is c.in_ok-counter.ensures.tells in
     let exact = subst (λ o. IsSentUnchanged slots pages → (is_some o ≡ true)
     ↔ (CanBeAccepted slots pages Any w.lines w.repeat w.deadline → ⊥)) c.in-Some.is c.in_ok-counter.ensures.exact in
-    all_three (λ t. (p : definitions.Page) → slice_get pages run.page ≡ Some p → string_bytes t.line ≡ counter_line p.id run)
-    (λ t. t.file.items ≡ saved c.args.save run) (λ t. t.verdict ≡ 1)
-    (λ t. IsRefutation slots c.args.service.now (fields_of c.args.certificate.now) c.args.save t.file.items (string_bytes t.line) t.verdict)
+    all_three (λ t. (p : definitions.Page) → slice_get pages run.page ≡ Some p → string_bytes t.line ≡ said_counter c.args.asked.json p.id run)
+    (λ t. t.file.items ≡ saved c.args.asked.save run) (λ t. t.verdict ≡ 1)
+    (λ t. IsRefutation slots c.args.service.now (fields_of c.args.certificate.now) c.args.asked t.file.items (string_bytes t.line) t.verdict)
     c.tell_counter.result
     (λ t line file status. refutation slots pages c.args.service.now
-    (fields_of c.args.certificate.now) c.args.save c.pages-pages.ensures.value c.requires (Some run) exact
+    (fields_of c.args.certificate.now) c.args.asked c.pages-pages.ensures.value c.requires (Some run) exact
     t.file.items (string_bytes t.line) t.verdict
     (record { is = told; page = told.is.page; here = told.is.here; same = line told.is.page told.is.here }, file, status))
     c.tell_counter.ensures.line c.tell_counter.ensures.file c.tell_counter.ensures.status
@@ -55,10 +55,10 @@ returns-in-None c =
     let told = subst (TellsCounter counter_run_of slots pages w) c.in-None.is c.in_ok-counter.ensures.tells in
     let exact = subst (λ o. IsSentUnchanged slots pages → (is_some o ≡ true)
     ↔ (CanBeAccepted slots pages Any w.lines w.repeat w.deadline → ⊥)) c.in-None.is c.in_ok-counter.ensures.exact in
-    all_three (λ t. string_bytes t.line ≡ codes "none" ++ 10 ∷ []) (λ t. t.file.items ≡ []) (λ t. t.verdict ≡ 0)
-    (λ t. IsRefutation slots c.args.service.now (fields_of c.args.certificate.now) c.args.save t.file.items (string_bytes t.line) t.verdict)
+    all_three (λ t. string_bytes t.line ≡ said_none c.args.asked.json) (λ t. t.file.items ≡ []) (λ t. t.verdict ≡ 0)
+    (λ t. IsRefutation slots c.args.service.now (fields_of c.args.certificate.now) c.args.asked t.file.items (string_bytes t.line) t.verdict)
     c.tell_none.result
     (λ t line file status. refutation slots pages c.args.service.now
-    (fields_of c.args.certificate.now) c.args.save c.pages-pages.ensures.value c.requires None exact
+    (fields_of c.args.certificate.now) c.args.asked c.pages-pages.ensures.value c.requires None exact
     t.file.items (string_bytes t.line) t.verdict (told, file, line, status))
     c.tell_none.ensures.line c.tell_none.ensures.file c.tell_none.ensures.status

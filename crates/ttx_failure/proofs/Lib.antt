@@ -1,0 +1,2 @@
+mod Tellable
+mod Permitted

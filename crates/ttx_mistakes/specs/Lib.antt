@@ -1,0 +1,15 @@
+pub mod Checking
+pub mod FirstKeys
+pub mod GivenViews
+pub mod KeyNotes
+pub mod Laws
+pub mod LongLines
+pub mod LongReports
+pub mod MistakeViews
+pub mod Mistakes
+pub mod NoteViews
+pub mod Notes
+pub mod WarningNotes
+pub mod Takes
+pub mod StayNotes
+pub mod PlacedViews

@@ -1,0 +1,25 @@
+//! All mistakes of a service text, and the warnings about it, each at its place.
+#![tactic(auto)]
+
+pub mod checking;
+pub mod error_notes;
+mod faults;
+mod finding;
+pub mod first_keys;
+mod ids;
+pub mod key_notes;
+pub mod laws;
+mod long_lines;
+pub mod long_reports;
+pub mod mistakes;
+pub mod notes;
+mod page_parts;
+pub mod placed;
+mod stay_notes;
+pub mod warning_notes;
+mod whys;
+
+pub use checking::{Reported, Style, check_in, report_in_style};
+pub use finding::all_mistakes;
+pub use long_reports::{LongReport, long_report, notes_of, pages_in, report_on};
+pub use placed::{Paper, Placed, push_notes, value_place};

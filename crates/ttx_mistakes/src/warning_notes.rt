@@ -1,0 +1,164 @@
+//! The warnings about a service as notes.
+
+ghost use Rattle.std.specs.Prelude.{◌≡◌, ◌++◌, IfOk, OnOk, map, string_bytes, codes};
+ghost use Rattle.std.specs.Fmt.{decimal};
+ghost use Rattle.ttx_page.specs.Views.{page_of};
+ghost use Rattle.ttx_mistakes.specs.NoteViews.{note_view, note_views};
+ghost use Rattle.ttx_mistakes.specs.WarningNotes as rule;
+
+use crate::ids::same_id;
+use crate::notes::Note;
+use std::alloc::{AllocError, Global};
+use ttx_check::warning::Warning;
+use ttx_check::warning_lines::push_text;
+use ttx_check::warnings;
+use ttx_digits::push_decimal;
+use ttx_header::PageId;
+use ttx_page::Page;
+use ttx_source::Service;
+
+/// The page that a warning is about.
+pub fn warned_page(warning: Warning) -> Option<PageId>
+    ensures { result ≡ rule.warned_page warning }
+{
+    match warning {
+        Warning::DeadInitial | Warning::MostTraffic { .. } => None,
+        Warning::DeadLink { page, .. }
+        | Warning::HiddenRow { page, .. }
+        | Warning::UnshownRow { page }
+        | Warning::StrayTab { page, .. }
+        | Warning::StrayBreak { page, .. }
+        | Warning::OtherSign { page, .. }
+        | Warning::LiteralEscape { page, .. }
+        | Warning::OpenBox { page, .. }
+        | Warning::EmptyRow { page }
+        | Warning::LetterNumber { page }
+        | Warning::LetterSubcode { page }
+        | Warning::NoBox { page }
+        | Warning::BehindSubpage { page }
+        | Warning::BehindItself { page, .. } => Some(page),
+    }
+}
+
+// Adds the path of a row below that of its page.
+fn push_row(path: &mut String, row: u8) -> Result<(), AllocError>
+    ensures { OnOk result (string_bytes path.new ≡ string_bytes path.old ++ rule.row_below row) }
+{
+    if row == 0 {
+        return path.push_str("/head");
+    }
+    path.push_str("/rows/")?;
+    push_decimal(path, usize::from(row))
+}
+
+fn push_link(path: &mut String, link: usize) -> Result<(), AllocError>
+    ensures { OnOk result (string_bytes path.new ≡ string_bytes path.old ++ codes "/links/" ++ decimal link) }
+{
+    path.push_str("/links/")?;
+    push_decimal(path, link)
+}
+
+// Adds the path below that of the page, or of the text.
+fn push_below(path: &mut String, warning: Warning) -> Result<(), AllocError>
+    ensures { OnOk result (string_bytes path.new ≡ string_bytes path.old ++ rule.below warning) }
+{
+    match warning {
+        Warning::DeadInitial => path.push_str("/info/initial"),
+        Warning::DeadLink { page: _, link } => push_link(path, link),
+        Warning::HiddenRow { page: _, row }
+        | Warning::StrayTab { page: _, row }
+        | Warning::StrayBreak { page: _, row }
+        | Warning::LiteralEscape { page: _, row }
+        | Warning::OpenBox { page: _, row }
+        | Warning::OtherSign { page: _, row, .. } => push_row(path, row),
+        Warning::UnshownRow { .. } => path.push_str("/rows/24"),
+        Warning::EmptyRow { .. } => path.push_str("/row24"),
+        Warning::LetterNumber { .. } => path.push_str("/number"),
+        Warning::LetterSubcode { .. } => path.push_str("/sub"),
+        Warning::NoBox { .. } | Warning::BehindSubpage { .. } => Ok(()),
+        Warning::BehindItself { .. } => path.push_str("/often"),
+        Warning::MostTraffic { .. } => path.push_str("/serial"),
+    }
+}
+
+/// The number of a page in the text.
+pub fn order_of(pages: &[Page], id: PageId) -> usize
+    ensures { result ≡ rule.order_of (map (λ p. p.id) (map page_of pages.now)) id }
+{
+    for (index, page) in pages.iter().enumerate() {
+        if same_id(id, page.id()) {
+            return index + 1;
+        }
+    }
+    0
+}
+
+// The path of the page that a warning is about.
+fn push_page(path: &mut String, pages: &[Page], page: Option<PageId>) -> Result<(), AllocError>
+    ensures { OnOk result (string_bytes path.new
+        ≡ string_bytes path.old ++ rule.page_prefix (map (λ p. p.id) (map page_of pages.now)) page) }
+{
+    match page {
+        None => Ok(()),
+        Some(id) => {
+            path.push_str("/page/")?;
+            push_decimal(path, order_of(pages, id))
+        }
+    }
+}
+
+// The character of a row that a warning is about.
+fn warned_sign(warning: Warning) -> Option<usize>
+    ensures { result ≡ rule.warned_sign warning }
+{
+    match warning {
+        Warning::OtherSign { column, .. } => Some(column),
+        _ => None,
+    }
+}
+
+/// A warning as a note.
+pub fn warning_note(alloc: Global, pages: &[Page], warning: &Warning) -> Result<Note, AllocError>
+    ensures { IfOk result (λ note. note_view note ≡ rule.warning_note (map (λ p. p.id) (map page_of pages.now)) warning.now) }
+{
+    let mut path = String::new(alloc);
+    push_page(&mut path, pages, warned_page(*warning))?;
+    push_below(&mut path, *warning)?;
+    let mut words = String::new(alloc);
+    push_text(&mut words, *warning)?;
+    Ok(Note {
+        error: false,
+        path,
+        sign: warned_sign(*warning),
+        words: words.into_bytes(),
+    })
+}
+
+// Adds some warnings.
+fn push_notes(
+    alloc: Global,
+    notes: &mut Vec<Note>,
+    pages: &[Page],
+    found: &[Warning],
+) -> Result<(), AllocError>
+    ensures { OnOk result (note_views notes.new.items
+        ≡ note_views notes.old.items ++ map (rule.warning_note (map (λ p. p.id) (map page_of pages.now))) found.now) }
+{
+    for warning in found {
+        notes.push(warning_note(alloc, pages, warning)?)?;
+    }
+    Ok(())
+}
+
+/// Adds the warnings about a service.
+#[tactic(auto, unfolding(crate::specs::WarningNotes::warning_notes))]
+pub fn push_warnings(
+    alloc: Global,
+    notes: &mut Vec<Note>,
+    service: &Service,
+) -> Result<(), AllocError>
+    ensures { OnOk result (note_views notes.new.items ≡ note_views notes.old.items ++ rule.warning_notes service.now) }
+{
+    let found = warnings(alloc, service)?;
+    push_notes(alloc, notes, service.pages(), &found)
+}

@@ -1,0 +1,14 @@
+//! The law of airings from texts. A call costs nothing and gives the caller's proof the law.
+
+ghost use Rattle.ttx_press.specs.Whole.{AiringsAreWhole};
+
+use ttx_newsroom::TextSource;
+
+/// What is sent of a service for late receivers while its author changes it is never mixed: a receiver that shows a page only where it ends shows
+/// a page of one edition, whole, however often the pages change.
+pub fn airings_are_whole<S: TextSource>()
+    ensures { AiringsAreWhole S.reads }
+{
+    ttx_air::laws::editions_are_taken();
+    ttx_change::laws::schedules_are_whole();
+}
