@@ -7,8 +7,8 @@ call fails after the first packet, unless it is a write of packets, and notes it
 
 usage: refused_calls.py PROGRAM
 
-refusing.c makes the calls fail. It is built with the clang of the kit that `rt` belongs to, and loaded before the program. It runs a
-command as often as needed, each time from the beginning of main, in a process of its own.
+refusing.c makes the calls fail. It is built with the clang of the kit that `rt` belongs to, or else with a C compiler of the machine, and
+loaded before the program. It runs a command as often as needed, each time from the beginning of main, in a process of its own.
 """
 import os
 import shutil
@@ -244,9 +244,19 @@ class AirRuns(Runs):
         return writes
 
 
+def compiler():
+    """The clang beside the `rt` that is called (which may be called through a script in another folder), or a C compiler of the machine."""
+    rt = shutil.which("rt")
+    kits = [Path(os.path.realpath(rt)).parent.parent] if rt else []
+    found = [str(kit / "toolchain/bin/clang") for kit in kits] + ["clang", "gcc", "cc"]
+    for name in found:
+        if shutil.which(name):
+            return name
+    raise SystemExit(f"refused_calls: none of {', '.join(found)} is there to build refusing.c with")
+
+
 def build(folder):
-    kit = Path(os.path.realpath(shutil.which("rt"))).parent.parent
-    words = [kit / "toolchain/bin/clang", "-O1", "-shared", "-fPIC", "-nostdlib", "-o", folder / "refusing.so", TOP / "tests/refusing.c"]
+    words = [compiler(), "-O1", "-shared", "-fPIC", "-nostdlib", "-o", folder / "refusing.so", TOP / "tests/refusing.c"]
     subprocess.run(words, check=True)
 
 
