@@ -160,7 +160,11 @@ fn joined(waits: Told<u8>, numbers: &str) -> Result<Told<u8>, NoMemory>
 }
 
 // The lines for a cycle and a service, which may have promises, and for its numbers.
-fn tell_numbers(alloc: Global, inputs: &PromisedInputs, question: Question) -> Result<Told<u8>, NoMemory>
+fn tell_numbers(
+    alloc: Global,
+    inputs: &PromisedInputs,
+    question: Question,
+) -> Result<Told<u8>, NoMemory>
     requires some { 1 ≤ question.repeat }
     requires few { question.repeat ≤ 8 }
     ensures { IfOk result (λ told. IsNumbersWaitOf (shows_promises (length inputs.now.promised.promises.items) question.detail)
