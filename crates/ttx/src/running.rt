@@ -62,6 +62,7 @@ pub fn run_order(rt: &HostRuntime, order: &Order<'_>) -> Outcome {
         Order::Wait(order) => certificates::wait(rt, order),
         Order::Send(order) => sends::send(rt, order),
         Order::Air(order) => airs::air(rt, order),
+        Order::AirReplay(_) => Ok(3),
         Order::Report(order) => certificates::report_on(rt, order),
         Order::Compose { author, out } => desks::compose(rt, author, out),
         Order::Decompose { service, out } => desks::decompose(rt, service, out),
@@ -69,7 +70,18 @@ pub fn run_order(rt: &HostRuntime, order: &Order<'_>) -> Outcome {
         Order::Monitor(order) => feeds::monitor(rt, order),
         Order::Pages { cycle, json } => cycles::pages(rt, cycle, *json),
         Order::Book { cycle, out } => cycles::book(rt, cycle, out),
-        Order::Extract { cycle, out, lines } => cycles::extract(rt, cycle, out, lines.count()),
+        Order::Extract {
+            cycle,
+            out,
+            lines,
+            partial: _,
+        } => {
+            let lines = match lines {
+                Some(lines) => lines.count(),
+                None => 16,
+            };
+            cycles::extract(rt, cycle, out, lines)
+        }
         Order::Check(order) => services::check(rt, order),
         Order::Version => Ok(status_of(rt, version(rt))),
     }

@@ -13,7 +13,7 @@ use Rattle.ttx_arguments.specs.Grammar.{ttx_app}
 use Rattle.ttx_arguments.specs.Orders.{Asks, order_at}
 use Rattle.ttx_arguments.specs.Moments.{moment_of}
 use Rattle.ttx_arguments.specs.Seconds.{fields_of, hundredths_of}
-use Rattle.ttx_arguments.specs.Examples.{VersionWords, CertifyWords, SendWords, PlanWords, SecondsTexts, FindWords, RepeatWords, SpliceWords, WaitWords, MonitorWords, ExplainWords, AirWords, ComposeWords, TwiceWords, RefuteWords, ReplayWords, PreviewWords, CheckWords}
+use Rattle.ttx_arguments.specs.Examples.{VersionWords, CertifyWords, SendWords, PlanWords, SecondsTexts, FindWords, RepeatWords, SpliceWords, WaitWords, MonitorWords, ExplainWords, AirWords, ComposeWords, TwiceWords, RefuteWords, ReplayWords, PreviewWords, CheckWords, ExtractWords}
 
 pub version_words : VersionWords
 unfolding ttx_app walked bundle_met chars encode_utf8 flags_pass walk_passes flags_fault walk_fault defaults_fault
@@ -87,6 +87,8 @@ monitor_words names = (
   inl (refl, refl),
   inl (refl, refl),
   inl (refl, refl),
+  inl (refl, refl),
+  inl (refl, refl),
   refl,
 )
 
@@ -96,7 +98,11 @@ preview_words names = (inl (refl, refl), inl (refl, refl), inl (refl, refl), inl
 
 pub check_words : CheckWords
 unfolding ttx_app walked bundle_met chars encode_utf8 flags_pass walk_passes flags_fault walk_fault defaults_fault Asks order_at command_named
-check_words names = (inl (refl, refl), inl (refl, refl), inl (refl, refl))
+check_words names = (inl (refl, refl), inl (refl, refl), inl (refl, refl), inl (refl, refl), inl (refl, refl))
+
+pub extract_words : ExtractWords
+unfolding ttx_app walked bundle_met chars encode_utf8 flags_pass walk_passes flags_fault walk_fault defaults_fault Asks order_at command_named
+extract_words names = (inl (refl, refl), inl (refl, refl))
 
 pub explain_words : ExplainWords
 unfolding ttx_app walked bundle_met chars encode_utf8 flags_pass walk_passes flags_fault walk_fault defaults_fault Asks order_at command_named
@@ -108,7 +114,16 @@ replay_words names = inl (refl, refl)
 
 pub air_words : AirWords
 unfolding ttx_app walked bundle_met chars encode_utf8 flags_pass walk_passes flags_fault walk_fault defaults_fault Asks order_at command_named fields_of hundredths_of decimal_in two_decimals moment_of
-air_words names = (inl (refl, refl), inl (refl, refl), inl (refl, refl), inl (refl, refl), inl (refl, refl), refl)
+air_words names = (
+  inl (refl, refl),
+  inl (refl, refl),
+  inl (refl, refl),
+  inl (refl, refl),
+  inl (refl, refl),
+  inl (refl, refl),
+  inl (refl, refl),
+  inl (refl, refl),
+)
 
 pub compose_words : ComposeWords
 unfolding ttx_app walked bundle_met chars encode_utf8 flags_pass walk_passes flags_fault walk_fault defaults_fault Asks order_at command_named

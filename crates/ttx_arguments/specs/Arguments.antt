@@ -40,6 +40,7 @@ id_of argument.ReplayForm = codes "as"
 id_of argument.Repeat = codes "repeat"
 id_of argument.Lines = codes "lines"
 id_of argument.NeededLines = codes "lines"
+id_of argument.GivenLines = codes "lines"
 id_of argument.Start = codes "start"
 id_of argument.FeedStart = codes "start"
 id_of argument.Slots = codes "slots"
@@ -72,6 +73,7 @@ id_of argument.AirWithin = codes "within"
 id_of argument.AirAt = codes "at"
 id_of argument.AirFields = codes "fields"
 id_of argument.AirLog = codes "log"
+id_of argument.AirReplay = codes "replay"
 id_of argument.Every = codes "every"
 id_of argument.Date = codes "date"
 id_of argument.AirLate = codes "late"
@@ -84,6 +86,7 @@ id_of argument.SomePage = codes "page"
 id_of argument.PreviewAll = codes "all"
 id_of argument.Long = codes "long"
 id_of argument.Strict = codes "strict"
+id_of argument.Partial = codes "partial"
 
 -- Ranges of numbers are inclusive.
 abbrev pub takes_of : Argument → Takes
@@ -94,6 +97,7 @@ takes_of argument.ReplayForm = takes.ReplayForm
 takes_of argument.Repeat = takes.Number 1 8
 takes_of argument.Lines = takes.Number 1 32
 takes_of argument.NeededLines = takes.Number 1 32
+takes_of argument.GivenLines = takes.Number 1 32
 takes_of argument.Start = takes.Number 0 65535
 takes_of argument.FeedStart = takes.Number 0 65535
 takes_of argument.Slots = takes.Number 0 1000000
@@ -120,6 +124,7 @@ takes_of argument.AirWithin = takes.Text
 takes_of argument.AirAt = takes.Text
 takes_of argument.AirFields = takes.Number 0 4294967295
 takes_of argument.AirLog = takes.Text
+takes_of argument.AirReplay = takes.Text
 takes_of argument.Every = takes.Number 1 1000000
 takes_of argument.Date = takes.Text
 takes_of argument.AirLate = takes.Nothing
@@ -132,12 +137,12 @@ takes_of argument.SomePage = takes.Optional
 takes_of argument.PreviewAll = takes.Nothing
 takes_of argument.Long = takes.Nothing
 takes_of argument.Strict = takes.Nothing
+takes_of argument.Partial = takes.Nothing
 takes_of _ = takes.Operand
 
 -- an operand has to be there unless it is optional
 abbrev pub is_needed : Argument → Bool
 is_needed argument.NeededLines = true
-is_needed argument.AirWithin = true
 is_needed argument.Fields = true
 is_needed argument.At = true
 is_needed _ = false
@@ -205,15 +210,15 @@ arguments_of command.Send =
     argument.Cycle ∷ argument.At ∷ argument.Fields ∷ argument.NeededLines ∷ argument.Phase ∷ argument.Offset ∷ argument.Zone ∷ argument.Force ∷ []
 arguments_of command.Monitor =
     argument.Cycle ∷ argument.Service ∷ argument.Certificate ∷ argument.Feed ∷ argument.FeedStart ∷ argument.MonitorAll
-    ∷ argument.Every ∷ argument.Rows ∷ []
+    ∷ argument.Every ∷ argument.Rows ∷ argument.Json ∷ []
 arguments_of command.Pages = argument.Cycle ∷ argument.Json ∷ []
 arguments_of command.Book = argument.Cycle ∷ argument.Book ∷ []
-arguments_of command.Extract = argument.Cycle ∷ argument.Extracted ∷ argument.NeededLines ∷ []
-arguments_of command.Check = argument.Service ∷ argument.Long ∷ argument.Strict ∷ []
+arguments_of command.Extract = argument.Cycle ∷ argument.Extracted ∷ argument.GivenLines ∷ argument.Partial ∷ []
+arguments_of command.Check = argument.Service ∷ argument.Long ∷ argument.Strict ∷ argument.Json ∷ []
 arguments_of command.Version = []
 arguments_of command.Air =
     argument.Watched ∷ argument.AirWithin ∷ argument.Repeat ∷ argument.AirAt ∷ argument.Zone ∷ argument.Offset ∷ argument.AirFields
-    ∷ argument.AirLate ∷ argument.AtOnce ∷ argument.Spread ∷ argument.AirLog ∷ argument.Force ∷ []
+    ∷ argument.AirLate ∷ argument.AtOnce ∷ argument.Spread ∷ argument.AirLog ∷ argument.AirReplay ∷ argument.Force ∷ []
 arguments_of command.Compose = argument.Author ∷ argument.Composed ∷ []
 arguments_of command.Decompose = argument.Service ∷ argument.Decomposed ∷ []
 arguments_of command.Report = argument.Cycle ∷ argument.Service ∷ argument.Certificate ∷ argument.Reported ∷ argument.Date ∷ []

@@ -22,11 +22,17 @@ apart one other = record { one = one; other = other }
 abbrev pub conflicts_of : CommandName → List Conflict
 conflicts_of command.Certify =
     apart argument.CertifyAll argument.Late ∷ apart argument.CertifyAll argument.Numbers ∷ apart argument.CertifyAll argument.Twice
-    ∷ apart argument.CertifyAll argument.Within ∷ apart argument.Json argument.Numbers ∷ apart argument.Json argument.Twice ∷ []
-conflicts_of command.Wait = apart argument.Json argument.Items ∷ apart argument.Json argument.WaitNumbers ∷ []
-conflicts_of command.Monitor = apart argument.Rows argument.MonitorAll ∷ apart argument.Rows argument.Every ∷ []
+    ∷ apart argument.CertifyAll argument.Within ∷ []
+conflicts_of command.Monitor =
+    apart argument.Rows argument.MonitorAll ∷ apart argument.Rows argument.Every ∷ apart argument.Json argument.MonitorAll
+    ∷ apart argument.Json argument.Every ∷ []
+conflicts_of command.Check = apart argument.Json argument.Long ∷ []
 conflicts_of command.Preview = apart argument.PreviewAll argument.SomePage ∷ []
-conflicts_of command.Air = apart argument.AirLate argument.AtOnce ∷ []
+conflicts_of command.Air =
+    apart argument.AirLate argument.AtOnce ∷ apart argument.AirReplay argument.AirWithin ∷ apart argument.AirReplay argument.Repeat
+    ∷ apart argument.AirReplay argument.AirAt ∷ apart argument.AirReplay argument.Zone ∷ apart argument.AirReplay argument.Offset
+    ∷ apart argument.AirReplay argument.AirFields ∷ apart argument.AirReplay argument.AirLate ∷ apart argument.AirReplay argument.AtOnce
+    ∷ apart argument.AirReplay argument.Spread ∷ apart argument.AirReplay argument.AirLog ∷ []
 conflicts_of _ = []
 
 abbrev pub is_there_as : Takes → Argument → List Row → Bool

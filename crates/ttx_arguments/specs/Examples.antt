@@ -10,6 +10,7 @@
 --   MonitorWords             a slot that need not be there, and two inputs that are standard input
 --   RefuteWords              an option with a value beside one without
 --   PreviewWords, CheckWords an operand that need not be there, in whose place an option is; options without a value
+--   ExtractWords             a number that need not be there, beside an option without a value
 --   ExplainWords             an operand that names no file; an option of one command, and no other
 --   ReplayWords              names of one command, and the one that is meant if none is given
 --   AirWords, ComposeWords   the defaults of time, end and receivers; an input and an output that are standard streams
@@ -20,7 +21,7 @@ use Rattle.clap.specs.declared.error.kind.ErrorKind.TheVariants.{DisplayVersion,
 use Rattle.ttx_page.specs.declared.class.Class.TheVariants.{Any}
 use Rattle.ttx_arguments.specs.Grammar.{ttx_app}
 use Rattle.ttx_arguments.specs.Orders.{Asks, OrderView, certify_order, find_order, monitor_order, plan_order, send_order, splice_order, wait_order, no_time, two_clocks, no_seconds, two_deadlines, within_and_more, numbers_unfit, named_twice, apart, explain_order, pages_order, refute_order}
-use Rattle.ttx_arguments.specs.Orders.{air_order, check_order, compose_order, preview_all_order, preview_order, replay_order, no_page}
+use Rattle.ttx_arguments.specs.Orders.{air_order, air_replay_order, check_order, extract_order, compose_order, preview_all_order, preview_order, replay_order, no_page}
 use Rattle.ttx_page.specs.declared.selection.Selection.TheVariants.{AnySub}
 use Rattle.ttx_picture.specs.declared.forms.Form.TheVariants as form
 use Rattle.ttx_arguments.specs.Seconds.{fields_of}
@@ -56,7 +57,8 @@ CertifyWords =
     × Asks (ttx_app names) (certify_texts ++ codes "--all" ∷ codes "--within=1" ∷ []) (Err (apart (conflicts.apart argument.CertifyAll argument.Within)))
     × Asks (ttx_app names) (certify_texts ++ codes "--all" ∷ codes "--json" ∷ [])
     (Ok (certify_order (codes "c") (codes "s") (codes "k") false false false None true true))
-    × Asks (ttx_app names) (certify_texts ++ codes "--json" ∷ codes "--twice" ∷ []) (Err (apart (conflicts.apart argument.Json argument.Twice)))
+    × Asks (ttx_app names) (certify_texts ++ codes "--json" ∷ codes "--twice" ∷ [])
+    (Ok (certify_order (codes "c") (codes "s") (codes "k") false false true None false true))
 
 abbrev send_texts : Text → List Text
 send_texts at = codes "send" ∷ codes "c" ∷ codes "--at" ∷ at ∷ codes "--fields" ∷ codes "3" ∷ codes "--lines" ∷ codes "12" ∷ []
@@ -145,7 +147,7 @@ WaitWords =
     × Asks (ttx_app names) (wait_texts ++ codes "--numbers" ∷ []) (Ok (waited false true))
     × Asks (ttx_app names) (wait_texts ++ codes "--numbers" ∷ codes "--items" ∷ []) (Ok (waited true true))
     × Asks (ttx_app names) (wait_texts ++ codes "--json" ∷ []) (Ok (wait_order (codes "c") (codes "s") 1 Any false false true))
-    × Asks (ttx_app names) (wait_texts ++ codes "--items" ∷ codes "--json" ∷ []) (Err (apart (conflicts.apart argument.Json argument.Items)))
+    × Asks (ttx_app names) (wait_texts ++ codes "--items" ∷ codes "--json" ∷ []) (Ok (wait_order (codes "c") (codes "s") 1 Any true false true))
 
 abbrev refute_texts : List Text
 refute_texts = codes "refute" ∷ codes "c" ∷ codes "s" ∷ codes "k" ∷ []
@@ -160,7 +162,7 @@ abbrev monitor_texts : List Text
 monitor_texts = codes "monitor" ∷ codes "c" ∷ codes "s" ∷ codes "k" ∷ codes "-" ∷ []
 
 abbrev monitored : Option ℕ → Bool → Option ℕ → Bool → OrderView
-monitored start all every rows = monitor_order (codes "c") (codes "s") (codes "k") (codes "-") start all every rows
+monitored start all every rows = monitor_order (codes "c") (codes "s") (codes "k") (codes "-") start all every rows false
 
 abbrev pub MonitorWords : Type 0
 MonitorWords =
@@ -169,6 +171,9 @@ MonitorWords =
     × Asks (ttx_app names) (monitor_texts ++ codes "--all" ∷ codes "--every=1000000" ∷ []) (Ok (monitored None true (Some 1000000) false))
     × Asks (ttx_app names) (monitor_texts ++ codes "--rows" ∷ []) (Ok (monitored None false None true))
     × Asks (ttx_app names) (monitor_texts ++ codes "--every=50" ∷ codes "--rows" ∷ []) (Err (apart (conflicts.apart argument.Rows argument.Every)))
+    × Asks (ttx_app names) (monitor_texts ++ codes "--json" ∷ codes "--rows" ∷ [])
+    (Ok (monitor_order (codes "c") (codes "s") (codes "k") (codes "-") None false None true true))
+    × Asks (ttx_app names) (monitor_texts ++ codes "--json" ∷ codes "--every=50" ∷ []) (Err (apart (conflicts.apart argument.Json argument.Every)))
     × Asks (ttx_app names) (codes "monitor" ∷ codes "-" ∷ codes "s" ∷ codes "k" ∷ codes "-" ∷ []) (Err named_twice)
     × (fault_of (ttx_app names) (monitor_texts ++ codes "--start=65536" ∷ []) ≡ ValueValidation ∷ [])
 
@@ -184,9 +189,17 @@ PreviewWords =
 
 abbrev pub CheckWords : Type 0
 CheckWords =
-    (names : Names) → Asks (ttx_app names) (codes "check" ∷ codes "s" ∷ []) (Ok (check_order (codes "s") false false))
-    × Asks (ttx_app names) (codes "check" ∷ codes "s" ∷ codes "--long" ∷ []) (Ok (check_order (codes "s") true false))
-    × Asks (ttx_app names) (codes "check" ∷ codes "s" ∷ codes "--strict" ∷ []) (Ok (check_order (codes "s") false true))
+    (names : Names) → Asks (ttx_app names) (codes "check" ∷ codes "s" ∷ []) (Ok (check_order (codes "s") false false false))
+    × Asks (ttx_app names) (codes "check" ∷ codes "s" ∷ codes "--long" ∷ []) (Ok (check_order (codes "s") true false false))
+    × Asks (ttx_app names) (codes "check" ∷ codes "s" ∷ codes "--strict" ∷ []) (Ok (check_order (codes "s") false true false))
+    × Asks (ttx_app names) (codes "check" ∷ codes "s" ∷ codes "--json" ∷ []) (Ok (check_order (codes "s") false false true))
+    × Asks (ttx_app names) (codes "check" ∷ codes "s" ∷ codes "--json" ∷ codes "--long" ∷ []) (Err (apart (conflicts.apart argument.Json argument.Long)))
+
+abbrev pub ExtractWords : Type 0
+ExtractWords =
+    (names : Names) → Asks (ttx_app names) (codes "extract" ∷ codes "c" ∷ codes "o" ∷ []) (Ok (extract_order (codes "c") (codes "o") None false))
+    × Asks (ttx_app names) (codes "extract" ∷ codes "c" ∷ codes "o" ∷ codes "--lines=12" ∷ codes "--partial" ∷ [])
+    (Ok (extract_order (codes "c") (codes "o") (Some 12) true))
 
 abbrev pub ExplainWords : Type 0
 ExplainWords =
@@ -214,7 +227,9 @@ AirWords =
     × Asks (ttx_app names) (air_texts ++ codes "--late" ∷ codes "--at=now" ∷ []) (Ok (aired None true None))
     × Asks (ttx_app names) (air_texts ++ codes "--late" ∷ codes "--at-once" ∷ []) (Err (apart (conflicts.apart argument.AirLate argument.AtOnce)))
     × Asks (ttx_app names) (air_texts ++ codes "--at=61000/235960" ∷ []) (Err no_time)
-    × (fault_of (ttx_app names) (codes "air" ∷ codes "s" ∷ []) ≡ MissingRequiredArgument ∷ [])
+    × Asks (ttx_app names) (codes "air" ∷ codes "s" ∷ []) (Err within_and_more)
+    × Asks (ttx_app names) (codes "air" ∷ codes "f" ∷ codes "--replay=l" ∷ []) (Ok (air_replay_order (codes "l") (codes "f") false))
+    × Asks (ttx_app names) (air_texts ++ codes "--replay" ∷ codes "l" ∷ []) (Err (apart (conflicts.apart argument.AirReplay argument.AirWithin)))
 
 abbrev pub ComposeWords : Type 0
 ComposeWords =

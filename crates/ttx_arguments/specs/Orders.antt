@@ -41,7 +41,7 @@ use Rattle.ttx_arguments.specs.declared.conflicts.Conflict.{Conflict}
 use Rattle.ttx_arguments.specs.declared.orders.Look.{Look}
 use Rattle.ttx_arguments.specs.declared.orders.Order.{Order}
 use Rattle.ttx_arguments.specs.declared.orders.Order.TheVariants.{Inspect, Plan, Find, Certify, Refute, Replay, Receive, Show, Preview, PreviewAll, Splice, Wait}
-use Rattle.ttx_arguments.specs.declared.orders.Order.TheVariants.{Send, Air, Monitor, Report, Pages, Book, Extract, Check, Compose, Decompose, Explain, Version}
+use Rattle.ttx_arguments.specs.declared.orders.Order.TheVariants.{Send, Air, AirReplay, Monitor, Report, Pages, Book, Extract, Check, Compose, Decompose, Explain, Version}
 use Rattle.ttx_arguments.specs.declared.orders.ReceiverKind.{ReceiverKind}
 use Rattle.ttx_arguments.specs.declared.orders.ReceiverKind.TheVariants.{Eager, Careful, Cleared}
 use Rattle.ttx_arguments.specs.declared.orders.ReplayForm.{ReplayForm}
@@ -83,13 +83,14 @@ pub data OrderView : Type 0 where
   splice_order : (old new old_service new_service old_certificate new_certificate : Text) → (sent : Option ℕ) → (late : Bool) → OrderView
   wait_order : (cycle service : Text) → (repeat : ℕ) → (class : Class) → (items numbers json : Bool) → OrderView
   send_order : (cycle : Text) → (timing : TimingView) → (sending : Sending) → (force : Bool) → OrderView
-  monitor_order : (cycle service certificate feed : Text) → (start : Option ℕ) → (all : Bool) → (every : Option ℕ) → (rows : Bool) → OrderView
+  monitor_order : (cycle service certificate feed : Text) → (start : Option ℕ) → (all : Bool) → (every : Option ℕ) → (rows json : Bool) → OrderView
   air_order : (service : Text) → (within repeat : ℕ) → (timing : TimingView) → (fields : Option ℕ) → (late spread : Bool) → (log : Option Text) → (force : Bool) → OrderView
+  air_replay_order : (log texts : Text) → (force : Bool) → OrderView
   report_order : (cycle service certificate out : Text) → (date : Option Text) → OrderView
   pages_order : (cycle : Text) → (json : Bool) → OrderView
   book_order : (cycle out : Text) → OrderView
-  extract_order : (cycle out : Text) → (lines : ℕ) → OrderView
-  check_order : (service : Text) → (long strict : Bool) → OrderView
+  extract_order : (cycle out : Text) → (lines : Option ℕ) → (partial : Bool) → OrderView
+  check_order : (service : Text) → (long strict json : Bool) → OrderView
   compose_order : (author out : Text) → OrderView
   decompose_order : (service out : Text) → OrderView
   explain_order : (reason : Text) → OrderView
@@ -112,12 +113,13 @@ order_view (Wait o) = wait_order o.cycle.now o.service.now o.repeat o.class o.it
 order_view (Send o) = send_order o.cycle.now (timing_view o.timing) o.sending o.force
 order_view (Air o) =
     air_order o.service.now o.within o.repeat (timing_view o.timing) o.fields o.late o.spread (option_map (λ s. s.now) o.log) o.force
-order_view (Monitor o) = monitor_order o.cycle.now o.service.now o.certificate.now o.feed.now o.start o.all o.every o.rows
+order_view (Monitor o) = monitor_order o.cycle.now o.service.now o.certificate.now o.feed.now o.start o.all o.every o.rows o.json
+order_view (AirReplay o) = air_replay_order o.log.now o.texts.now o.force
 order_view (Report o) = report_order o.cycle.now o.service.now o.certificate.now o.out.now (option_map (λ s. s.now) o.date)
 order_view (Pages cycle json) = pages_order cycle.now json
 order_view (Book cycle out) = book_order cycle.now out.now
-order_view (Extract cycle out lines) = extract_order cycle.now out.now lines
-order_view (Check o) = check_order o.service.now o.long o.strict
+order_view (Extract cycle out lines partial) = extract_order cycle.now out.now lines partial
+order_view (Check o) = check_order o.service.now o.long o.strict o.json
 order_view (Compose author out) = compose_order author.now out.now
 order_view (Decompose service out) = decompose_order service.now out.now
 order_view (Explain reason) = explain_order reason.now
@@ -318,6 +320,7 @@ abbrev pub monitor_at : List Row → OrderView
 monitor_at rows =
     monitor_order (text_at argument.Cycle rows) (text_at argument.Service rows) (text_at argument.Certificate rows) (text_at argument.Feed rows)
     (number_given argument.FeedStart rows) (is_set argument.MonitorAll rows) (number_given argument.Every rows) (is_set argument.Rows rows)
+    (is_set argument.Json rows)
 
 abbrev pub report_at : List Row → OrderView
 report_at rows =
@@ -331,10 +334,12 @@ abbrev pub book_at : List Row → OrderView
 book_at rows = book_order (text_at argument.Cycle rows) (text_at argument.Book rows)
 
 abbrev pub extract_at : List Row → OrderView
-extract_at rows = extract_order (text_at argument.Cycle rows) (text_at argument.Extracted rows) (lines_at rows)
+extract_at rows =
+    extract_order (text_at argument.Cycle rows) (text_at argument.Extracted rows) (number_given argument.GivenLines rows) (is_set argument.Partial rows)
 
 abbrev pub check_at : List Row → OrderView
-check_at rows = check_order (text_at argument.Service rows) (is_set argument.Long rows) (is_set argument.Strict rows)
+check_at rows =
+    check_order (text_at argument.Service rows) (is_set argument.Long rows) (is_set argument.Strict rows) (is_set argument.Json rows)
 
 abbrev pub compose_at : List Row → OrderView
 compose_at rows = compose_order (text_at argument.Author rows) (text_at argument.Composed rows)
@@ -390,8 +395,17 @@ air_by (Some within) (Some start) (Some clock) rows = Ok (air_with within (recor
 abbrev pub air_start_at : List Row → Option StartView
 air_start_at rows = start_named (unwrap_or (given_at argument.AirAt rows) (codes "now"))
 
+abbrev pub air_within : Text → List Row → Result OrderView Unfit
+air_within seconds rows = air_by (fields_of seconds) (air_start_at rows) (clock_at rows) rows
+
+-- by the log of an airing, or within some seconds; one of both is needed
+abbrev pub air_asked : Option Text → Option Text → List Row → Result OrderView Unfit
+air_asked (Some log) within rows = Ok (air_replay_order log (text_at argument.Watched rows) (is_set argument.Force rows))
+air_asked None (Some seconds) rows = air_within seconds rows
+air_asked None None rows = Err within_and_more
+
 abbrev pub air_at : List Row → Result OrderView Unfit
-air_at rows = air_by (fields_of (text_at argument.AirWithin rows)) (air_start_at rows) (clock_at rows) rows
+air_at rows = air_asked (given_at argument.AirReplay rows) (given_at argument.AirWithin rows) rows
 
 abbrev pub is_standard : Argument → List Row → Bool
 is_standard argument rows = bytes_eq (text_at argument rows) (codes "-")

@@ -2,11 +2,11 @@
 
 ghost use Rattle.std.specs.Prelude.{◌≡◌, option_map};
 ghost use Rattle.clap.specs.Words.{rows_of, found_of};
-ghost use Rattle.ttx_arguments.specs.Orders.{air_start_at, air_at, IsOrderOf};
+ghost use Rattle.ttx_arguments.specs.Orders.{air_start_at, air_within, air_at, IsOrderOf};
 ghost use Rattle.ttx_arguments.specs.Timings.{start_view};
 
 use crate::arguments::Argument;
-use crate::orders::{AirOrder, Order, Start, Timing, WordsFault};
+use crate::orders::{AirOrder, AirReplayOrder, Order, Start, Timing, WordsFault};
 use crate::seconds::fields_of;
 use crate::timings::{clock_of, start_of};
 use crate::values::{given, given_number, is_set, repeat_of, text_of};
@@ -22,11 +22,11 @@ fn air_start<'a>(values: &ArgMatches<'a>) -> Option<Start<'a>>
     }
 }
 
-pub(crate) fn air_of<'a>(values: &ArgMatches<'a>) -> Result<Order<'a>, WordsFault>
-    ensures { IsOrderOf result (air_at (rows_of (found_of values.now))) }
+// What `air` is asked for with these seconds.
+fn air_within<'a>(values: &ArgMatches<'a>, seconds: &str) -> Result<Order<'a>, WordsFault>
+    ensures { IsOrderOf result (air_within seconds.now (rows_of (found_of values.now))) }
 {
-    let within = fields_of(text_of(values, Argument::AirWithin));
-    match (within, air_start(values), clock_of(values)) {
+    match (fields_of(seconds), air_start(values), clock_of(values)) {
         (None, _, _) => Err(WordsFault::Seconds),
         (Some(_), None, _) => Err(WordsFault::Time),
         (Some(_), Some(_), None) => Err(WordsFault::Clocks),
@@ -41,5 +41,22 @@ pub(crate) fn air_of<'a>(values: &ArgMatches<'a>) -> Result<Order<'a>, WordsFaul
             log: given(values, Argument::AirLog),
             force: is_set(values, Argument::Force),
         })),
+    }
+}
+
+pub(crate) fn air_of<'a>(values: &ArgMatches<'a>) -> Result<Order<'a>, WordsFault>
+    ensures { IsOrderOf result (air_at (rows_of (found_of values.now))) }
+{
+    match (
+        given(values, Argument::AirReplay),
+        given(values, Argument::AirWithin),
+    ) {
+        (Some(log), _) => Ok(Order::AirReplay(AirReplayOrder {
+            log,
+            texts: text_of(values, Argument::Watched),
+            force: is_set(values, Argument::Force),
+        })),
+        (None, Some(seconds)) => air_within(values, seconds),
+        (None, None) => Err(WordsFault::Within),
     }
 }

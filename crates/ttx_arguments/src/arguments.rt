@@ -48,6 +48,7 @@ pub enum Argument {
     Repeat,
     Lines,
     NeededLines,
+    GivenLines,
     Start,
     FeedStart,
     Slots,
@@ -80,6 +81,7 @@ pub enum Argument {
     AirAt,
     AirFields,
     AirLog,
+    AirReplay,
     Every,
     Date,
     AirLate,
@@ -92,11 +94,12 @@ pub enum Argument {
     PreviewAll,
     Long,
     Strict,
+    Partial,
 }
 
 // The name of each argument in the order of `Argument`, what help calls its value, and what help says of it.
 #[rattlefmt::skip]
-static TEXTS: [(&str, &str, &str); 68] = [
+static TEXTS: [(&str, &str, &str); 71] = [
     ("file", "FILE", help::CYCLE_OPERAND),
     ("cycle", "CYCLE", help::CYCLE_OPERAND),
     ("service", "SERVICE", help::SERVICE_OPERAND),
@@ -121,6 +124,7 @@ static TEXTS: [(&str, &str, &str); 68] = [
     ("repeat", "K", help::REPEAT_OPTION),
     ("lines", "L", help::LINES_OPTION),
     ("lines", "L", help::NEEDED_LINES_OPTION),
+    ("lines", "L", help::GIVEN_LINES_OPTION),
     ("start", "S", help::START_OPTION),
     ("start", "S", help::FEED_START_OPTION),
     ("slots", "N", help::SLOTS_OPTION),
@@ -153,6 +157,7 @@ static TEXTS: [(&str, &str, &str); 68] = [
     ("at", "TIME", help::AIR_AT_OPTION),
     ("fields", "N", help::AIR_FIELDS_OPTION),
     ("log", "FILE", help::AIR_LOG_OPTION),
+    ("replay", "LOG", help::AIR_REPLAY_OPTION),
     ("every", "FIELDS", help::EVERY_OPTION),
     ("date", "DATE", help::DATE_OPTION),
     ("late", "", help::AIR_LATE_OPTION),
@@ -165,6 +170,7 @@ static TEXTS: [(&str, &str, &str); 68] = [
     ("all", "", help::PREVIEW_ALL_OPTION),
     ("long", "", help::LONG_OPTION),
     ("strict", "", help::STRICT_OPTION),
+    ("partial", "", help::PARTIAL_OPTION),
 ];
 
 impl Argument {
@@ -195,7 +201,9 @@ impl Argument {
             Argument::Form => Takes::Form,
             Argument::ReplayForm => Takes::ReplayForm,
             Argument::Repeat => Takes::Number(1, 8),
-            Argument::Lines | Argument::NeededLines => Takes::Number(1, 32),
+            Argument::Lines | Argument::NeededLines | Argument::GivenLines => {
+                Takes::Number(1, 32)
+            },
             Argument::Start | Argument::FeedStart => Takes::Number(0, 65_535),
             Argument::Slots => Takes::Number(0, 1_000_000),
             Argument::Fields | Argument::AirFields | Argument::Phase | Argument::Sent => {
@@ -209,6 +217,7 @@ impl Argument {
             | Argument::At
             | Argument::AirAt
             | Argument::AirLog
+            | Argument::AirReplay
             | Argument::Date
             | Argument::Zone => Takes::Text,
             Argument::PlannedLate
@@ -229,7 +238,8 @@ impl Argument {
             | Argument::Rows
             | Argument::PreviewAll
             | Argument::Long
-            | Argument::Strict => Takes::Nothing,
+            | Argument::Strict
+            | Argument::Partial => Takes::Nothing,
             Argument::SomePage => Takes::Optional,
             _ => Takes::Operand,
         }
@@ -240,7 +250,7 @@ impl Argument {
         ensures { result ≡ rule.is_needed self }
     {
         match self {
-            Argument::At | Argument::Fields | Argument::NeededLines | Argument::AirWithin => true,
+            Argument::At | Argument::Fields | Argument::NeededLines => true,
             _ => false,
         }
     }

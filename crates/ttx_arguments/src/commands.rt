@@ -20,8 +20,8 @@ use crate::ranges::Fields;
 use crate::seconds::fields_of;
 use crate::timings::{clock_of, start_of};
 use crate::values::{
-    class_of, deadline_of, every_of, given, given_number, is_set, lines_of, look_of, repeat_of,
-    replay_form_of, sending_of, text_of, tuning_of,
+    class_of, deadline_of, every_of, given, given_lines_of, given_number, is_set, look_of,
+    repeat_of, replay_form_of, sending_of, text_of, tuning_of,
 };
 use clap::ArgMatches;
 use ttx_picture::Form;
@@ -287,6 +287,7 @@ pub(crate) fn monitor_of<'a>(values: &ArgMatches<'a>) -> Order<'a>
         all: is_set(values, Argument::MonitorAll),
         every: every_of(values),
         rows: is_set(values, Argument::Rows),
+        json: is_set(values, Argument::Json),
     })
 }
 
@@ -326,7 +327,8 @@ pub(crate) fn extract_of<'a>(values: &ArgMatches<'a>) -> Order<'a>
     Order::Extract {
         cycle: text_of(values, Argument::Cycle),
         out: text_of(values, Argument::Extracted),
-        lines: lines_of(values),
+        lines: given_lines_of(values),
+        partial: is_set(values, Argument::Partial),
     }
 }
 
@@ -337,6 +339,7 @@ pub(crate) fn check_of<'a>(values: &ArgMatches<'a>) -> Order<'a>
         service: text_of(values, Argument::Service),
         long: is_set(values, Argument::Long),
         strict: is_set(values, Argument::Strict),
+        json: is_set(values, Argument::Json),
     })
 }
 

@@ -198,7 +198,6 @@ Statuses:
      refused: within (with --late or --twice),
      refused: numbers (without --late, or with --within or --twice),
      refused: --all with .. (--late, --numbers, --twice or --within),
-     refused: --json with .. (--numbers or --twice),
      refused: twice, refused: cycle NUMBER NAME [REST],
      refused: service NUMBER NAME [KEY] page N, refused: service too-long,
      refused: certificate NUMBER NAME [line N], refused: certificate too-long
@@ -470,7 +469,7 @@ the order of their first pages, each one of
 Statuses:
   0  there is a deadline for all pages, and no page is too late
   1  there is none, or a page is too late
-  2  error: .. (the arguments), refused: --json with .. (--items or --numbers),
+  2  error: .. (the arguments),
      refused: twice, refused: cycle NUMBER NAME [REST],
      refused: service NUMBER NAME [KEY] page N, refused: service too-long
   3  fault: file, fault: read, fault: write, fault: memory";
@@ -582,7 +581,7 @@ Statuses:
   0  yes
   1  no
   2  error: .. (the arguments), refused: twice,
-     refused: --rows with .. (--all or --every),
+     refused: --rows with .., refused: --json with .. (--all or --every),
      refused: cycle NUMBER NAME [REST],
      refused: service NUMBER NAME [KEY] page N, refused: service too-long,
      refused: certificate NUMBER NAME [line N], refused: certificate too-long
@@ -680,7 +679,8 @@ all its mistakes have such lines, without --long not followed by others.
 Statuses:
   0  the text is accepted
   1  with --strict: the text is accepted, with a warning
-  2  the text is refused; also error: .. (the arguments) and
+  2  the text is refused; also error: .. (the arguments),
+     refused: --json with --long and
      refused: service too-long on standard error
   3  fault: file, fault: read, fault: write, fault: memory";
 
@@ -765,6 +765,13 @@ pub(crate) const LINES_OPTION: &str = "Lines of a field that carry teletext, 1 t
 [default: 16]";
 
 pub(crate) const NEEDED_LINES_OPTION: &str = "Lines of a field that carry teletext, 1 to 32";
+
+pub(crate) const GIVEN_LINES_OPTION: &str = "Lines of a field that carry teletext, 1 to 32; without
+it, writes no OUT, but the lines with which the pages
+have a deadline";
+
+pub(crate) const PARTIAL_OPTION: &str = "Leave out pages that no service text can have, each with
+a line that says why";
 
 pub(crate) const START_OPTION: &str = "Slot to begin at, 0 to 65535, round the cycle [default: 0]";
 
@@ -854,8 +861,8 @@ TIME, --offset and --zone are as those of send. Without --at it is now.
 
 Statuses:
   0  N fields are sent
-  2  error: .. (the arguments), refused: seconds, refused: time,
-     refused: clocks (--zone and --offset),
+  2  error: .. (the arguments), refused: within (neither it nor --replay),
+     refused: seconds, refused: time, refused: clocks (--zone and --offset),
      refused: zone (there is no such time zone),
      refused: --late with --at-once, refused: same (FILE is SERVICE),
      refused: terminal (packets would go to a terminal, without --force),
@@ -866,8 +873,8 @@ Statuses:
      gone), fault: memory";
 
 pub(crate) const WATCHED_OPERAND: &str =
-    "Service definition: a file with a TOML text of at most 4194304
-bytes, in which changes are looked for";
+    "Service definition, or an author's text: a file with a TOML
+text of at most 4194304 bytes, in which changes are looked for";
 
 pub(crate) const AIR_WITHIN_OPTION: &str = "Seconds within which each page is seen, also after a
 change, 0.02 to 20000, with at most two decimals,
@@ -886,6 +893,9 @@ pub(crate) const AT_ONCE_OPTION: &str = "Plan and judge only for receivers that 
 once";
 
 pub(crate) const AIR_LOG_OPTION: &str = "File to write the log to, too; created or emptied";
+
+pub(crate) const AIR_REPLAY_OPTION: &str = "Send again what was on the air by this log; SERVICE is
+then a folder with the texts that it names";
 
 pub(crate) const COMPOSE_MORE: &str =
     "Reads AUTHOR to its end. Writes the service definition that it stands for to

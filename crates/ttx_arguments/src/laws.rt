@@ -1,6 +1,6 @@
 //! What some command lines ask for, computed from the definitions: examples that compare the grammar and the orders with what a user types.
 
-ghost use Rattle.ttx_arguments.specs.Examples.{VersionWords, CertifyWords, SendWords, PlanWords, SecondsTexts, FindWords, RepeatWords, SpliceWords, WaitWords, MonitorWords, ExplainWords, AirWords, ComposeWords, TwiceWords, RefuteWords, ReplayWords, PreviewWords, CheckWords};
+ghost use Rattle.ttx_arguments.specs.Examples.{VersionWords, CertifyWords, SendWords, PlanWords, SecondsTexts, FindWords, RepeatWords, SpliceWords, WaitWords, MonitorWords, ExplainWords, AirWords, ComposeWords, TwiceWords, RefuteWords, ReplayWords, PreviewWords, CheckWords, ExtractWords};
 
 /// `--version` and `-V` ask for the version, also before other words.
 pub fn version_words()
@@ -8,7 +8,7 @@ pub fn version_words()
 {}
 
 /// `certify` with `--late` asks for the verdict on late receivers, and not to read the cycle twice; half a second is 25 fields, and is refused
-/// with neither `--twice` nor `--late`; `--numbers` goes with `--late` alone, and `--all` with `--json` alone.
+/// with neither `--twice` nor `--late`; `--numbers` goes with `--late`, and `--all` and `--twice` with `--json`.
 pub fn certify_words()
     ensures { CertifyWords }
 {}
@@ -44,13 +44,13 @@ pub fn splice_words()
     ensures { SpliceWords }
 {}
 
-/// `wait` takes `--items` and `--numbers`, alone and together, and `--json` alone.
+/// `wait` takes `--items` and `--numbers`, alone and together, and `--json` beside them.
 pub fn wait_words()
     ensures { WaitWords }
 {}
 
 /// `monitor` takes the slot with which the feed begins (none is not 0); the feed is an input. `--all` and `--every` go together, but neither
-/// with `--rows`.
+/// with `--rows` or `--json`.
 pub fn monitor_words()
     ensures { MonitorWords }
 {}
@@ -65,9 +65,14 @@ pub fn preview_words()
     ensures { PreviewWords }
 {}
 
-/// `check` takes `--long` and `--strict`.
+/// `check` takes `--long` or `--json`, not both, and `--strict`.
 pub fn check_words()
     ensures { CheckWords }
+{}
+
+/// `extract` takes the lines of a field, which need not be there, and `--partial`.
+pub fn extract_words()
+    ensures { ExtractWords }
 {}
 
 /// `explain` takes a reason, and `pages` an option without a value.
@@ -80,7 +85,7 @@ pub fn replay_words()
     ensures { ReplayWords }
 {}
 
-/// `air` begins now, has no end and is late unless the words say otherwise; it takes the seconds within which pages are seen.
+/// `air` begins now, has no end and is late unless the words say otherwise; it takes the seconds within which pages are seen, or a log, not both.
 pub fn air_words()
     ensures { AirWords }
 {}

@@ -147,7 +147,7 @@ pub struct CertifyOrder<'a> {
     pub within: Option<Fields>,
     /// Whether each page has a line with its first reason; not with `late`, `twice` or `within`.
     pub all: bool,
-    /// Whether the answer is written as JSON; not with `numbers` or `twice`.
+    /// Whether the answer is written as JSON.
     pub json: bool,
 }
 
@@ -209,7 +209,7 @@ pub struct WaitOrder<'a> {
     pub items: bool,
     /// Whether each number with several pages has a line, too.
     pub numbers: bool,
-    /// Whether the answer is written as JSON; not with `items` or `numbers`.
+    /// Whether the answer is written as JSON.
     pub json: bool,
 }
 
@@ -229,6 +229,8 @@ pub struct MonitorOrder<'a> {
     pub every: Option<Fields>,
     /// Whether the rule by rows is asked for; not with `all` or `every`.
     pub rows: bool,
+    /// Whether the answer is written as JSON; not with `all` or `every`.
+    pub json: bool,
 }
 
 /// What `report` is asked for.
@@ -250,6 +252,8 @@ pub struct CheckOrder<'a> {
     pub long: bool,
     /// Whether a warning makes the status 1.
     pub strict: bool,
+    /// Whether all mistakes are written as JSON; not with `long`.
+    pub json: bool,
 }
 
 /// What `air` is asked for.
@@ -268,6 +272,17 @@ pub struct AirOrder<'a> {
     pub spread: bool,
     /// The file that the log goes to, too.
     pub log: Option<&'a str>,
+    /// Whether packets are written to a terminal, too.
+    pub force: bool,
+}
+
+/// What `air --replay` is asked for.
+#[derive(Clone, Copy)]
+pub struct AirReplayOrder<'a> {
+    /// The log of an airing.
+    pub log: &'a str,
+    /// The folder with the texts that it names.
+    pub texts: &'a str,
     /// Whether packets are written to a terminal, too.
     pub force: bool,
 }
@@ -319,6 +334,8 @@ pub enum Order<'a> {
     Send(SendOrder<'a>),
     /// Keep a service on the air from its text, and follow its changes.
     Air(AirOrder<'a>),
+    /// Send again what was on the air by its log.
+    AirReplay(AirReplayOrder<'a>),
     /// Judge whether a received feed is a cycle.
     Monitor(MonitorOrder<'a>),
     /// Write a report of a verdict.
@@ -338,7 +355,10 @@ pub enum Order<'a> {
     Extract {
         cycle: &'a str,
         out: &'a str,
-        lines: Lines,
+        /// Without them, those are named with which its pages have a deadline.
+        lines: Option<Lines>,
+        /// Whether pages that no service text can have are left out.
+        partial: bool,
     },
     /// Report what is wrong, or probably wrong, in the text of a service.
     Check(CheckOrder<'a>),
@@ -377,7 +397,7 @@ pub enum WordsFault {
     Seconds,
     /// 7. A deadline is given both in fields and in seconds.
     Deadlines,
-    /// 8. `certify --within` with `--late` or `--twice`.
+    /// 8. `certify --within` with `--late` or `--twice`; `air` without `--within` and `--replay`.
     Within,
     /// 9. `certify --numbers` without `--late`, or with `--within` or `--twice`.
     Numbers,

@@ -88,6 +88,16 @@ pub(crate) fn lines_of(values: &ArgMatches<'_>) -> Lines
     Lines::new(number_of(values, Argument::Lines, 16) as u8)
 }
 
+// The lines given to `--lines`.
+pub(crate) fn given_lines_of(values: &ArgMatches<'_>) -> Option<Lines>
+    ensures { result ≡ number_given argument.GivenLines (rows_of (found_of values.now)) }
+{
+    match given_number(values, Argument::GivenLines) {
+        Some(count) => Some(Lines::new(count as u8)),
+        None => None,
+    }
+}
+
 // The deadline given to `--deadline`.
 pub(crate) fn deadline_of(values: &ArgMatches<'_>) -> Option<Fields>
     ensures { result ≡ number_given argument.Deadline (rows_of (found_of values.now)) }

@@ -28,8 +28,6 @@ pub mod Reports
 pub mod PlannedFiles
 pub mod PlanLaws
 pub mod Wait
-pub mod WaitNumbers
-pub mod WaitJson
 pub mod Send
 pub mod Beginnings
 pub mod Version

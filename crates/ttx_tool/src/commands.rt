@@ -43,7 +43,5 @@ pub mod standing;
 mod stays;
 pub mod version;
 pub mod wait;
-pub mod wait_json;
-pub mod wait_numbers;
 
 pub use reports::{report_air, report_extraction, report_fault, report_words};

@@ -11,6 +11,7 @@ use ttx_arguments::{CertifyOrder, Fields, FindOrder, ReportOrder, WaitOrder};
 use ttx_cycle::Counted;
 use ttx_deadline::Asked;
 use ttx_report::is_date;
+use ttx_tool::commands::wait::Question;
 use ttx_tool::{ToolFault, commands};
 use ttx_wait::Detail;
 
@@ -273,67 +274,23 @@ fn detail_of(order: &WaitOrder<'_>) -> Detail {
 }
 
 // The status is 0 if there is a deadline for all pages, otherwise 1.
-fn wait_in(
-    rt: &HostRuntime,
-    readers: &mut SentServiceReaders,
-    order: &WaitOrder<'_>,
-) -> Result<u8, ToolFault> {
+fn wait_for(rt: &HostRuntime, inputs: SentService, order: &WaitOrder<'_>) -> Result<u8, ToolFault> {
+    let mut readers = inputs.readers(rt)?;
     let mut writer = Counted::new(io::writer(rt));
+    let question = Question {
+        repeat: order.repeat.count(),
+        class: order.class,
+        detail: detail_of(order),
+        numbers: order.numbers,
+        json: order.json,
+    };
     commands::wait::run(
         rt.alloc(),
         &mut readers.cycle,
         &mut readers.service,
-        order.repeat.count(),
-        order.class,
-        detail_of(order),
+        question,
         &mut writer,
     )
-}
-
-// The same with a line for each page number with several pages.
-fn wait_in_numbers(
-    rt: &HostRuntime,
-    readers: &mut SentServiceReaders,
-    order: &WaitOrder<'_>,
-) -> Result<u8, ToolFault> {
-    let mut writer = Counted::new(io::writer(rt));
-    commands::wait_numbers::run(
-        rt.alloc(),
-        &mut readers.cycle,
-        &mut readers.service,
-        order.repeat.count(),
-        order.class,
-        detail_of(order),
-        &mut writer,
-    )
-}
-
-// The same as JSON objects.
-fn wait_as_json(
-    rt: &HostRuntime,
-    readers: &mut SentServiceReaders,
-    order: &WaitOrder<'_>,
-) -> Result<u8, ToolFault> {
-    let mut writer = Counted::new(io::writer(rt));
-    commands::wait_json::run(
-        rt.alloc(),
-        &mut readers.cycle,
-        &mut readers.service,
-        order.repeat.count(),
-        order.class,
-        &mut writer,
-    )
-}
-
-fn wait_for(rt: &HostRuntime, inputs: SentService, order: &WaitOrder<'_>) -> Result<u8, ToolFault> {
-    let mut readers = inputs.readers(rt)?;
-    if order.json {
-        wait_as_json(rt, &mut readers, order)
-    } else if order.numbers {
-        wait_in_numbers(rt, &mut readers, order)
-    } else {
-        wait_in(rt, &mut readers, order)
-    }
 }
 
 /// Opens the cycle and the service, and writes how long viewers of each page wait.
