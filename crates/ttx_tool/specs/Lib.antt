@@ -2,6 +2,7 @@ pub mod Devices
 pub mod Diagnosis
 pub mod Air
 pub mod Answers
+pub mod Claims
 pub mod Certify
 pub mod Texts
 pub mod Lines

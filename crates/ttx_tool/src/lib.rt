@@ -1,6 +1,7 @@
 //! The commands of the program `ttx`, over readers and writers.
 #![tactic(auto)]
 
+pub mod claims;
 pub mod commands;
 pub mod faults;
 pub mod laws;
@@ -10,6 +11,7 @@ mod texts;
 mod unlike_views;
 mod views;
 
+pub use claims::Claim;
 pub use faults::{AirRefusal, CounterFileFault, ExtractionFault, ToolFault};
 pub use ttx_arguments::{Look, Order, ReceiverKind, Tuning, WordsFault, words};
 pub use ttx_broadcast::{BroadcastFault, LogCopy, Outputs, ServiceFile};

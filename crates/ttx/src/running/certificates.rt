@@ -1,160 +1,69 @@
 //! The commands that judge a cycle by its service: `certify`, `find`, `report`, `wait`.
 
 use super::Outcome;
-use super::inputs::{Claim, ClaimReaders, SentService, SentServiceReaders, buffered};
+use super::inputs::{Claim, SentService, SentServiceReaders, buffered};
 use crate::devices::{Input, create_out, open_input};
 use crate::reports::{report, report_no_date, status_of};
 use std::fs::File;
 use std::io;
-use std::io::BufReader;
 use ttx_arguments::{CertifyOrder, Fields, FindOrder, ReportOrder, WaitOrder};
 use ttx_cycle::Counted;
 use ttx_deadline::Asked;
 use ttx_report::is_date;
+use ttx_tool::commands::certify::Judgement;
 use ttx_tool::commands::wait::Question;
 use ttx_tool::{ToolFault, commands};
 use ttx_wait::Detail;
 
-fn certify_readers(
-    rt: &HostRuntime,
-    readers: &mut ClaimReaders,
-    late: bool,
-) -> Result<u8, ToolFault> {
-    let mut writer = Counted::new(io::writer(rt));
-    commands::certify::run(
-        rt.alloc(),
-        &mut readers.cycle,
-        &mut readers.service,
-        &mut readers.text,
-        late,
-        &mut writer,
-    )
-}
-
-// The same for a certificate from which a deadline is required.
-fn certify_readers_within(
-    rt: &HostRuntime,
-    readers: &mut ClaimReaders,
-    required: u32,
-) -> Result<u8, ToolFault> {
-    let mut writer = Counted::new(io::writer(rt));
-    commands::certify_within::run(
-        rt.alloc(),
-        &mut readers.cycle,
-        &mut readers.service,
-        &mut readers.text,
-        required,
-        &mut writer,
-    )
-}
-
-// The same for viewers who key a page number alone.
-fn certify_readers_numbers(rt: &HostRuntime, readers: &mut ClaimReaders) -> Result<u8, ToolFault> {
-    let mut writer = Counted::new(io::writer(rt));
-    commands::certify_numbers::run(
-        rt.alloc(),
-        &mut readers.cycle,
-        &mut readers.service,
-        &mut readers.text,
-        &mut writer,
-    )
-}
-
-// The same with the first reason of each page.
-fn certify_readers_all(rt: &HostRuntime, readers: &mut ClaimReaders) -> Result<u8, ToolFault> {
-    let mut writer = Counted::new(io::writer(rt));
-    commands::certify_all::run(
-        rt.alloc(),
-        &mut readers.cycle,
-        &mut readers.service,
-        &mut readers.text,
-        &mut writer,
-    )
-}
-
-// The verdict as a line, and what stands below it.
-fn certify_in_lines(
-    rt: &HostRuntime,
-    readers: &mut ClaimReaders,
-    order: &CertifyOrder<'_>,
-) -> Result<u8, ToolFault> {
+// What is asked for, beside the form of the answer.
+fn judgement_of(order: &CertifyOrder<'_>) -> Judgement {
     match order.within {
-        None if order.numbers => certify_readers_numbers(rt, readers),
-        None if order.all => certify_readers_all(rt, readers),
-        None => certify_readers(rt, readers, order.late),
-        Some(fields) => certify_readers_within(rt, readers, fields.count()),
-    }
-}
-
-// The same as JSON objects.
-fn certify_as_json(
-    rt: &HostRuntime,
-    readers: &mut ClaimReaders,
-    order: &CertifyOrder<'_>,
-) -> Result<u8, ToolFault> {
-    let (cycle, service, text) = (&mut readers.cycle, &mut readers.service, &mut readers.text);
-    let mut writer = Counted::new(io::writer(rt));
-    let alloc = rt.alloc();
-    match order.within {
-        None if order.all => {
-            commands::certify_json::run_all(alloc, cycle, service, text, &mut writer)
-        }
-        None if order.late => {
-            commands::certify_json::run_late(alloc, cycle, service, text, &mut writer)
-        }
-        None => commands::certify_json::run(alloc, cycle, service, text, &mut writer),
-        Some(fields) => {
-            let required = fields.count();
-            commands::certify_json::run_within(alloc, cycle, service, text, required, &mut writer)
-        }
+        Some(fields) => Judgement::Within(fields.count()),
+        None if order.numbers => Judgement::Numbers,
+        None if order.all => Judgement::All,
+        None if order.late => Judgement::Late,
+        None => Judgement::AtOnce,
     }
 }
 
 fn certify_claim(
     rt: &HostRuntime,
-    claim: Claim,
+    inputs: Claim,
     order: &CertifyOrder<'_>,
 ) -> Result<u8, ToolFault> {
-    let mut readers = claim.readers(rt)?;
-    if order.json {
-        certify_as_json(rt, &mut readers, order)
-    } else {
-        certify_in_lines(rt, &mut readers, order)
-    }
-}
-
-// The same for a cycle that is read twice.
-fn certify_readers_twice(
-    rt: &HostRuntime,
-    first: &mut Counted<BufReader<Input>>,
-    readers: &mut ClaimReaders,
-) -> Result<u8, ToolFault> {
+    let mut claim = inputs.claim(rt)?;
     let mut writer = Counted::new(io::writer(rt));
-    commands::certify::run_twice(
+    commands::certify::run(
         rt.alloc(),
-        first,
-        &mut readers.cycle,
-        &mut readers.service,
-        &mut readers.text,
+        &mut claim,
+        judgement_of(order),
+        order.json,
         &mut writer,
     )
 }
 
-fn certify_twice(rt: &HostRuntime, first: Input, claim: Claim) -> Result<u8, ToolFault> {
+// The same for a cycle that is read twice.
+fn certify_twice(
+    rt: &HostRuntime,
+    first: Input,
+    inputs: Claim,
+    json: bool,
+) -> Result<u8, ToolFault> {
     let mut first = buffered(rt, first)?;
-    let mut readers = claim.readers(rt)?;
-    certify_readers_twice(rt, &mut first, &mut readers)
+    let mut claim = inputs.claim(rt)?;
+    let mut writer = Counted::new(io::writer(rt));
+    commands::certify::run_twice(rt.alloc(), &mut first, &mut claim, json, &mut writer)
 }
 
 /// Opens the cycle, once more where it is read twice, the service and the certificate, and judges the cycle by the certificate.
 pub fn certify(rt: &HostRuntime, order: &CertifyOrder<'_>) -> Outcome {
     if order.twice && !order.late {
         let first = open_input(rt, order.cycle)?;
-        let claim = Claim::open(rt, order.cycle, order.service, order.certificate)?;
-        return Ok(status_of(rt, certify_twice(rt, first, claim)));
+        let inputs = Claim::open(rt, order.cycle, order.service, order.certificate)?;
+        return Ok(status_of(rt, certify_twice(rt, first, inputs, order.json)));
     }
-    let claim = Claim::open(rt, order.cycle, order.service, order.certificate)?;
-    Ok(status_of(rt, certify_claim(rt, claim, order)))
+    let inputs = Claim::open(rt, order.cycle, order.service, order.certificate)?;
+    Ok(status_of(rt, certify_claim(rt, inputs, order)))
 }
 
 // The status is 0 if there is a deadline, otherwise 1.

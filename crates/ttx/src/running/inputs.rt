@@ -8,6 +8,9 @@ use ttx_files::FilesFault;
 use ttx_recognition::Recorded;
 use ttx_tool::ToolFault;
 
+// What inputs are read through.
+type Source = BufReader<Input>;
+
 /// A buffered reader of an input.
 pub fn buffered(rt: &HostRuntime, input: Input) -> Result<Counted<BufReader<Input>>, ToolFault> {
     match BufReader::new(rt.alloc(), input) {
@@ -92,6 +95,19 @@ impl Claim {
             cycle,
             service,
             text,
+        })
+    }
+
+    /// Buffered readers of the three, where the third is a certificate.
+    pub fn claim(
+        self,
+        rt: &HostRuntime,
+    ) -> Result<ttx_tool::Claim<Source, Source, Source>, ToolFault> {
+        let readers = self.readers(rt)?;
+        Ok(ttx_tool::Claim {
+            cycle: readers.cycle,
+            service: readers.service,
+            certificate: readers.text,
         })
     }
 }

@@ -1,20 +1,40 @@
 //! `certify`: whether a cycle is accepted with a certificate for the pages of a service.
 
-ghost use Rattle.std.specs.Prelude.{◌≡◌, ◌∷◌, [], true, false, IfSome};
+ghost use Rattle.std.specs.Prelude.{◌≡◌, ◌∷◌, []};
 ghost use Rattle.ttx_cycle.specs.Counters.{inner_of, faults_of};
 ghost use Rattle.ttx_files.specs.Answers.{IsUntouched};
-ghost use Rattle.ttx_certify.specs.CertifyingPasses.{CertifiesPasses};
 ghost use Rattle.ttx_files.specs.Devices.{AtCycle, AtService, AtCertificate, input, output, IsFirstFailure};
-ghost use Rattle.ttx_tool.specs.Answers.{verdict_status, late_status, IsAnswered};
-ghost use Rattle.ttx_tool.specs.Certify.{CertifiesFor};
+ghost use Rattle.ttx_tool.specs.Answers.{verdict_status, late_status, numbers_status, required_status};
+ghost use Rattle.ttx_tool.specs.Certify.{CertifiesBy, CertifiesTwice};
+ghost use Rattle.ttx_tool.specs.Claims.{claim_devices};
 ghost use Rattle.ttx_tool.specs.Devices.{is_tool_write, failed_at};
 
+use super::{certify_json, certify_lines};
+use crate::claims::Claim;
 use crate::faults::ToolFault;
 use std::alloc::Global;
 use std::io::{Read, Write};
-use ttx_certify::{Verdict, certify_files, certify_passes};
+use ttx_certify::{Verdict, certify_passes};
 use ttx_cycle::Counted;
-use ttx_late::{LateVerdict, certify_files_late};
+use ttx_deadline::RequiredVerdict;
+use ttx_late::LateVerdict;
+use ttx_records::certify_passes_json;
+use ttx_subpages::NumbersVerdict;
+
+/// What a cycle is judged for.
+#[derive(Clone, Copy)]
+pub enum Judgement {
+    /// Receivers that show a page at once.
+    AtOnce,
+    /// The same, with the first reason of each page.
+    All,
+    /// Receivers that show a page late, too.
+    Late,
+    /// The same, and viewers who key a page number without a subcode.
+    Numbers,
+    /// Receivers that show a page at once, within at most so many fields.
+    Within(u32),
+}
 
 /// 0 for a yes, 1 for a no.
 pub(super) fn verdict_status(verdict: Verdict) -> u8
@@ -36,106 +56,94 @@ pub(super) fn late_status(verdict: LateVerdict) -> u8
     }
 }
 
-// The verdict for receivers that show a page at once.
-fn certify<A: Read, B: Read, C: Read, W: Write>(
-    alloc: Global,
-    cycle: &mut Counted<A>,
-    service: &mut Counted<B>,
-    certificate: &mut Counted<C>,
-    writer: &mut Counted<W>,
-) -> Result<u8, ToolFault>
-    ensures bytes { CertifiesFor false (A.remaining (inner_of cycle.old)) (B.remaining (inner_of service.old))
-        (C.remaining (inner_of certificate.old)) (W.contents (inner_of writer.old)) (W.contents (inner_of writer.new)) result }
-    ensures faults { IsFirstFailure (input AtCycle (A.remaining (inner_of cycle.old)) (faults_of cycle.old) (faults_of cycle.new)
-        ∷ input AtService (B.remaining (inner_of service.old)) (faults_of service.old) (faults_of service.new)
-        ∷ input AtCertificate (C.remaining (inner_of certificate.old)) (faults_of certificate.old) (faults_of certificate.new)
-        ∷ output (faults_of writer.old) (faults_of writer.new) ∷ []) (failed_at result) }
-    ensures untouched { IsUntouched is_tool_write result writer.old writer.new }
+/// 0 for a yes, 1 for a no.
+pub(super) fn numbers_status(verdict: NumbersVerdict) -> u8
+    ensures { result ≡ numbers_status verdict }
 {
-    match certify_files(alloc, cycle, service, certificate, writer) {
-        Ok(verdict) => Ok(verdict_status(verdict)),
-        Err(fault) => Err(ToolFault::Files(fault)),
+    match verdict {
+        NumbersVerdict::Yes { gap: _ } => 0,
+        NumbersVerdict::No(_) | NumbersVerdict::Lacking(_) => 1,
     }
 }
 
-// The verdict for those that show it late, too.
-fn certify_late<A: Read, B: Read, C: Read, W: Write>(
-    alloc: Global,
-    cycle: &mut Counted<A>,
-    service: &mut Counted<B>,
-    certificate: &mut Counted<C>,
-    writer: &mut Counted<W>,
-) -> Result<u8, ToolFault>
-    ensures bytes { CertifiesFor true (A.remaining (inner_of cycle.old)) (B.remaining (inner_of service.old))
-        (C.remaining (inner_of certificate.old)) (W.contents (inner_of writer.old)) (W.contents (inner_of writer.new)) result }
-    ensures faults { IsFirstFailure (input AtCycle (A.remaining (inner_of cycle.old)) (faults_of cycle.old) (faults_of cycle.new)
-        ∷ input AtService (B.remaining (inner_of service.old)) (faults_of service.old) (faults_of service.new)
-        ∷ input AtCertificate (C.remaining (inner_of certificate.old)) (faults_of certificate.old) (faults_of certificate.new)
-        ∷ output (faults_of writer.old) (faults_of writer.new) ∷ []) (failed_at result) }
-    ensures untouched { IsUntouched is_tool_write result writer.old writer.new }
+/// 0 for a yes, 1 for a no.
+pub(super) fn required_status(verdict: RequiredVerdict) -> u8
+    ensures { result ≡ required_status verdict }
 {
-    match certify_files_late(alloc, cycle, service, certificate, writer) {
-        Ok(verdict) => Ok(late_status(verdict)),
-        Err(fault) => Err(ToolFault::Files(fault)),
+    match verdict {
+        RequiredVerdict::Yes => 0,
+        RequiredVerdict::No(_) | RequiredVerdict::Unmet(_) => 1,
     }
 }
 
-/// Reads a packet file, the text of a service and that of a certificate, in this order, certifies the pages of the service, where
-/// `late` is set also for receivers that show pages late, and writes the line of the verdict: the status is 0 if it is yes,
-/// otherwise 1.
+/// Reads a packet file, the text of a service and that of a certificate, in this order, certifies the pages of the service, and writes the
+/// verdict as lines or JSON objects: the status is 0 if it is yes, otherwise 1.
 ///
-/// Nothing is written before all is judged. After `Write` exactly the first `written` bytes of the line went out; after any other
+/// Nothing is written before everything is judged. After `Write` exactly the first `written` bytes of the answer went out; after any other
 /// fault the writer is unchanged.
 pub fn run<A: Read, B: Read, C: Read, W: Write>(
     alloc: Global,
-    cycle: &mut Counted<A>,
-    service: &mut Counted<B>,
-    certificate: &mut Counted<C>,
-    late: bool,
+    claim: &mut Claim<A, B, C>,
+    judgement: Judgement,
+    json: bool,
     writer: &mut Counted<W>,
 ) -> Result<u8, ToolFault>
-    ensures bytes { CertifiesFor late (A.remaining (inner_of cycle.old)) (B.remaining (inner_of service.old))
-        (C.remaining (inner_of certificate.old)) (W.contents (inner_of writer.old)) (W.contents (inner_of writer.new)) result }
-    ensures faults { IsFirstFailure (input AtCycle (A.remaining (inner_of cycle.old)) (faults_of cycle.old) (faults_of cycle.new)
-        ∷ input AtService (B.remaining (inner_of service.old)) (faults_of service.old) (faults_of service.new)
-        ∷ input AtCertificate (C.remaining (inner_of certificate.old)) (faults_of certificate.old) (faults_of certificate.new)
-        ∷ output (faults_of writer.old) (faults_of writer.new) ∷ []) (failed_at result) }
+    ensures bytes { CertifiesBy json judgement A.remaining B.remaining C.remaining claim.old
+        (W.contents (inner_of writer.old)) (W.contents (inner_of writer.new)) result }
+    ensures faults { IsFirstFailure (claim_devices A.remaining B.remaining C.remaining claim.old claim.new writer.old writer.new) (failed_at result) }
     ensures untouched { IsUntouched is_tool_write result writer.old writer.new }
 {
-    if late {
-        certify_late(alloc, cycle, service, certificate, writer)
-    } else {
-        certify(alloc, cycle, service, certificate, writer)
+    match (json, judgement) {
+        (false, Judgement::AtOnce) => certify_lines::at_once(alloc, claim, writer),
+        (false, Judgement::All) => certify_lines::all(alloc, claim, writer),
+        (false, Judgement::Late) => certify_lines::late(alloc, claim, writer),
+        (false, Judgement::Numbers) => certify_lines::numbers(alloc, claim, writer),
+        (false, Judgement::Within(required)) => certify_lines::within(
+            alloc, claim, required, writer,
+        ),
+        (true, Judgement::AtOnce) => certify_json::at_once(alloc, claim, writer),
+        (true, Judgement::All) => certify_json::all(alloc, claim, writer),
+        (true, Judgement::Late) => certify_json::late(alloc, claim, writer),
+        (true, Judgement::Numbers) => certify_json::numbers(alloc, claim, writer),
+        (true, Judgement::Within(required)) => certify_json::within(alloc, claim, required, writer),
     }
 }
 
-/// Reads the text of a service, that of a certificate, and then a packet file twice, in this order, slot by slot. Certifies the
-/// pages of the service for the second reading and writes the line of the verdict: the status is 0 if it is yes, otherwise 1.
+/// Reads the text of a service, that of a certificate, and then a packet file twice, in this order, slot by slot: once through `first`, and
+/// once in the claim. Certifies the pages of the service for the second reading and writes the verdict as a line or a JSON object: the status
+/// is 0 if it is yes, otherwise 1.
 ///
-/// Nothing is written before all is judged. After `Write` exactly the first `written` bytes of the line went out; after any other
+/// Nothing is written before everything is judged. After `Write` exactly the first `written` bytes of the answer went out; after any other
 /// fault the writer is unchanged.
 pub fn run_twice<A: Read, B: Read, C: Read, D: Read, W: Write>(
     alloc: Global,
     first: &mut Counted<A>,
-    second: &mut Counted<B>,
-    service: &mut Counted<C>,
-    certificate: &mut Counted<D>,
+    claim: &mut Claim<B, C, D>,
+    json: bool,
     writer: &mut Counted<W>,
 ) -> Result<u8, ToolFault>
-    ensures bytes { IsAnswered verdict_status (λ answer. IfSome (A.remaining (inner_of first.old)) (λ a.
-        IfSome (B.remaining (inner_of second.old)) (λ b.
-        IfSome (C.remaining (inner_of service.old)) (λ c.
-        IfSome (D.remaining (inner_of certificate.old)) (λ d.
-        CertifiesPasses a b c d (W.contents (inner_of writer.old)) (W.contents (inner_of writer.new)) answer))))) result }
+    ensures bytes { CertifiesTwice json (A.remaining (inner_of first.old)) (B.remaining (inner_of claim.old.cycle))
+        (C.remaining (inner_of claim.old.service)) (D.remaining (inner_of claim.old.certificate))
+        (W.contents (inner_of writer.old)) (W.contents (inner_of writer.new)) result }
     ensures faults { IsFirstFailure
-        (input AtService (C.remaining (inner_of service.old)) (faults_of service.old) (faults_of service.new)
-        ∷ input AtCertificate (D.remaining (inner_of certificate.old)) (faults_of certificate.old) (faults_of certificate.new)
+        (input AtService (C.remaining (inner_of claim.old.service)) (faults_of claim.old.service) (faults_of claim.new.service)
+        ∷ input AtCertificate (D.remaining (inner_of claim.old.certificate)) (faults_of claim.old.certificate) (faults_of claim.new.certificate)
         ∷ input AtCycle (A.remaining (inner_of first.old)) (faults_of first.old) (faults_of first.new)
-        ∷ input AtCycle (B.remaining (inner_of second.old)) (faults_of second.old) (faults_of second.new)
+        ∷ input AtCycle (B.remaining (inner_of claim.old.cycle)) (faults_of claim.old.cycle) (faults_of claim.new.cycle)
         ∷ output (faults_of writer.old) (faults_of writer.new) ∷ []) (failed_at result) }
     ensures untouched { IsUntouched is_tool_write result writer.old writer.new }
 {
-    match certify_passes(alloc, first, second, service, certificate, writer) {
+    let (second, service, certificate) = (
+        &mut claim.cycle,
+        &mut claim.service,
+        &mut claim.certificate,
+    );
+    let answer = if json {
+        certify_passes_json(alloc, first, second, service, certificate, writer)
+    } else {
+        certify_passes(alloc, first, second, service, certificate, writer)
+    };
+    match answer {
         Ok(verdict) => Ok(verdict_status(verdict)),
         Err(fault) => Err(ToolFault::Files(fault)),
     }

@@ -1,0 +1,22 @@
+-- The three files of a verdict.
+--
+--   IfKnown                 what holds of their bytes, where these are known
+--   claim_devices           the devices of a command that reads them and writes its answer, before and after
+use Rattle.std.specs.Prelude.{ℕ, List, [], ◌∷◌, Option, IfSome}
+use Rattle.ttx_cycle.specs.Counters.{inner_of, faults_of}
+use Rattle.ttx_cycle.specs.declared.counted.Counted.{Counted}
+use Rattle.ttx_files.specs.Devices.{Device, AtCycle, AtService, AtCertificate, input, output}
+use Rattle.ttx_tool.specs.declared.claims.Claim.{Claim}
+
+abbrev pub IfKnown : {A B C : Type 0} → (A → Option (List ℕ)) → (B → Option (List ℕ)) → (C → Option (List ℕ)) → Claim A B C →
+    (List ℕ → List ℕ → List ℕ → Type 0) → Type 0
+IfKnown a b c claim Holds =
+    IfSome (a (inner_of claim.cycle)) (λ a. IfSome (b (inner_of claim.service)) (λ b. IfSome (c (inner_of claim.certificate)) (λ c. Holds a b c)))
+
+abbrev pub claim_devices : {A B C W : Type 0} → (A → Option (List ℕ)) → (B → Option (List ℕ)) → (C → Option (List ℕ)) →
+    Claim A B C → Claim A B C → Counted W → Counted W → List Device
+claim_devices a b c old new before after =
+    input AtCycle (a (inner_of old.cycle)) (faults_of old.cycle) (faults_of new.cycle)
+    ∷ input AtService (b (inner_of old.service)) (faults_of old.service) (faults_of new.service)
+    ∷ input AtCertificate (c (inner_of old.certificate)) (faults_of old.certificate) (faults_of new.certificate)
+    ∷ output (faults_of before) (faults_of after) ∷ []
