@@ -14,6 +14,7 @@ import time
 LAST_LINES = 40
 MOST_FAULTS = 60
 FAULT = re.compile(r"NOT PROVED|NOT REFUSED|BAD EDIT|\berror\b")
+TRIED = re.compile(r"rt: must-fail (\S+\.edit): refused, as it must be( \(only [^)]*)?")
 
 
 def lines_of(folder, endings):
@@ -69,8 +70,17 @@ class Progress:
         elif line.startswith("logic=proved") and self.current:
             self.note(self.current, "proved")
             self.current = None
+        elif kept := re.match(r"rt: (\w+) is kept: an earlier run", line):
+            self.done.add(kept[1])
         elif tried := re.match(r"rt: (\w+): trying its must-fail edits", line):
             self.note(f"{tried[1]} edits", "begins its wrong bodies")
+
+
+def refusals(log):
+    """How many must-fail edits were refused, and those of which that says less of the contract."""
+    said = [found for line in open(log, errors="replace") if (found := TRIED.match(line))]
+    weak = [f"  {found[1]}{found[2][:60]})" for found in said if found[2]]
+    return "\n".join([f"{len(said)} must-fail edits refused, {len(weak)} of them not for want of a proof alone", *weak])
 
 
 def main():
@@ -91,6 +101,8 @@ def main():
         faults = [line for line in text[:-LAST_LINES] if FAULT.search(line)]
         print("\n".join([*faults[:MOST_FAULTS], *text[-LAST_LINES:]]))
     else:
+        if "ci" in command:
+            print(refusals(log))
         print(last, end="")
     took = f"{span(time.time() - progress.start)} on {len(os.sched_getaffinity(0))} processors"
     print(f"{' '.join(command)}: {'failed' if status else 'done'} after {took}; the whole text is in {log}")
