@@ -2,6 +2,7 @@
 --
 --   IfKnown                 what holds of their bytes, where these are known
 --   claim_devices           the devices of a command that reads them and writes its answer, before and after
+--   change_devices          the same of one that reads an old claim and a new one, the old one of each file first
 use Rattle.std.specs.Prelude.{ℕ, List, [], ◌∷◌, Option, IfSome}
 use Rattle.ttx_cycle.specs.Counters.{inner_of, faults_of}
 use Rattle.ttx_cycle.specs.declared.counted.Counted.{Counted}
@@ -19,4 +20,16 @@ claim_devices a b c old new before after =
     input AtCycle (a (inner_of old.cycle)) (faults_of old.cycle) (faults_of new.cycle)
     ∷ input AtService (b (inner_of old.service)) (faults_of old.service) (faults_of new.service)
     ∷ input AtCertificate (c (inner_of old.certificate)) (faults_of old.certificate) (faults_of new.certificate)
+    ∷ output (faults_of before) (faults_of after) ∷ []
+
+abbrev pub change_devices : {A B C D E F W : Type 0} → (A → Option (List ℕ)) → (B → Option (List ℕ)) → (C → Option (List ℕ)) →
+    (D → Option (List ℕ)) → (E → Option (List ℕ)) → (F → Option (List ℕ)) → Claim A C E → Claim B D F → Claim A C E → Claim B D F →
+    Counted W → Counted W → List Device
+change_devices a b c d e f old new old' new' before after =
+    input AtCycle (a (inner_of old.cycle)) (faults_of old.cycle) (faults_of old'.cycle)
+    ∷ input AtCycle (b (inner_of new.cycle)) (faults_of new.cycle) (faults_of new'.cycle)
+    ∷ input AtService (c (inner_of old.service)) (faults_of old.service) (faults_of old'.service)
+    ∷ input AtService (d (inner_of new.service)) (faults_of new.service) (faults_of new'.service)
+    ∷ input AtCertificate (e (inner_of old.certificate)) (faults_of old.certificate) (faults_of old'.certificate)
+    ∷ input AtCertificate (f (inner_of new.certificate)) (faults_of new.certificate) (faults_of new'.certificate)
     ∷ output (faults_of before) (faults_of after) ∷ []

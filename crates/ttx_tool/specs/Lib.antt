@@ -12,6 +12,7 @@ pub mod Receive
 pub mod Show
 pub mod Plan
 pub mod Promised
+pub mod Splice
 pub mod SpreadPlans
 pub mod Preview
 pub mod PreviewAll

@@ -35,8 +35,6 @@ mod reports;
 pub mod send;
 pub mod show;
 pub mod splice;
-pub mod splice_late;
-pub mod splice_sent;
 pub mod standing;
 mod stays;
 pub mod version;
