@@ -4,9 +4,10 @@
 --   claim_devices           the devices of a command that reads them and writes its answer, before and after
 --   change_devices          the same of one that reads an old claim and a new one, the old one of each file first
 use Rattle.std.specs.Prelude.{ℕ, List, [], ◌∷◌, Option, IfSome}
-use Rattle.ttx_cycle.specs.Counters.{inner_of, faults_of}
+use Rattle.ttx_cycle.specs.Counters.{inner_of}
 use Rattle.ttx_cycle.specs.declared.counted.Counted.{Counted}
-use Rattle.ttx_files.specs.Devices.{Device, AtCycle, AtService, AtCertificate, input, output}
+use Rattle.ttx_files.specs.Devices.{Device, AtCycle, AtService, AtCertificate}
+use Rattle.ttx_tool.specs.Devices.{read_from, written_to}
 use Rattle.ttx_tool.specs.declared.claims.Claim.{Claim}
 
 abbrev pub IfKnown : {A B C : Type 0} → (A → Option (List ℕ)) → (B → Option (List ℕ)) → (C → Option (List ℕ)) → Claim A B C →
@@ -17,19 +18,19 @@ IfKnown a b c claim Holds =
 abbrev pub claim_devices : {A B C W : Type 0} → (A → Option (List ℕ)) → (B → Option (List ℕ)) → (C → Option (List ℕ)) →
     Claim A B C → Claim A B C → Counted W → Counted W → List Device
 claim_devices a b c old new before after =
-    input AtCycle (a (inner_of old.cycle)) (faults_of old.cycle) (faults_of new.cycle)
-    ∷ input AtService (b (inner_of old.service)) (faults_of old.service) (faults_of new.service)
-    ∷ input AtCertificate (c (inner_of old.certificate)) (faults_of old.certificate) (faults_of new.certificate)
-    ∷ output (faults_of before) (faults_of after) ∷ []
+    read_from AtCycle a old.cycle new.cycle
+    ∷ read_from AtService b old.service new.service
+    ∷ read_from AtCertificate c old.certificate new.certificate
+    ∷ written_to before after ∷ []
 
 abbrev pub change_devices : {A B C D E F W : Type 0} → (A → Option (List ℕ)) → (B → Option (List ℕ)) → (C → Option (List ℕ)) →
     (D → Option (List ℕ)) → (E → Option (List ℕ)) → (F → Option (List ℕ)) → Claim A C E → Claim B D F → Claim A C E → Claim B D F →
     Counted W → Counted W → List Device
 change_devices a b c d e f old new old' new' before after =
-    input AtCycle (a (inner_of old.cycle)) (faults_of old.cycle) (faults_of old'.cycle)
-    ∷ input AtCycle (b (inner_of new.cycle)) (faults_of new.cycle) (faults_of new'.cycle)
-    ∷ input AtService (c (inner_of old.service)) (faults_of old.service) (faults_of old'.service)
-    ∷ input AtService (d (inner_of new.service)) (faults_of new.service) (faults_of new'.service)
-    ∷ input AtCertificate (e (inner_of old.certificate)) (faults_of old.certificate) (faults_of old'.certificate)
-    ∷ input AtCertificate (f (inner_of new.certificate)) (faults_of new.certificate) (faults_of new'.certificate)
-    ∷ output (faults_of before) (faults_of after) ∷ []
+    read_from AtCycle a old.cycle old'.cycle
+    ∷ read_from AtCycle b new.cycle new'.cycle
+    ∷ read_from AtService c old.service old'.service
+    ∷ read_from AtService d new.service new'.service
+    ∷ read_from AtCertificate e old.certificate old'.certificate
+    ∷ read_from AtCertificate f new.certificate new'.certificate
+    ∷ written_to before after ∷ []

@@ -1,10 +1,11 @@
 //! A receiver over the slots of a cycle that is sent again and again.
 
 ghost use Rattle.std.specs.Prelude.{◌≡◌, ◌<◌, ◌∷◌, [], IfSome, IfOk, IfErr, fold, length, pos};
-ghost use Rattle.ttx_cycle.specs.Counters.{inner_of, faults_of};
-ghost use Rattle.ttx_files.specs.Devices.{AtCycle, input, failed_at, IsFirstFailure, IsOf, IsRight};
+ghost use Rattle.ttx_cycle.specs.Counters.{inner_of};
+ghost use Rattle.ttx_files.specs.Devices.{AtCycle, failed_at, IsFirstFailure, IsOf, IsRight};
 ghost use Rattle.ttx_page.specs.Laws.{sent_from};
 ghost use Rattle.ttx_page.specs.Streams.{repeated};
+ghost use Rattle.ttx_tool.specs.Devices.{read_from};
 ghost use Rattle.ttx_tool.specs.Receive.{tuned_as, Hears};
 ghost use Rattle.ttx_tool.specs.Show.{stays_fresh, HearsFile};
 
@@ -57,8 +58,7 @@ pub(crate) fn hear_file<R: Read, X: Receiver>(
         (λ sent. X.held (fold X.next receiver.old sent)) start count bytes (X.held receiver.old) (X.held receiver.new) result) }
     ensures right { IfOk result (λ _. IsRight AtCycle (R.remaining (inner_of reader.old))) }
     ensures own { IfErr result (IsOf (AtCycle ∷ [])) }
-    ensures faults { IsFirstFailure (input AtCycle (R.remaining (inner_of reader.old)) (faults_of reader.old) (faults_of reader.new) ∷ [])
-        (failed_at result) }
+    ensures faults { IsFirstFailure (read_from AtCycle R.remaining reader.old reader.new ∷ []) (failed_at result) }
 {
     match read_packets(alloc, reader) {
         Ok(cycle) => {

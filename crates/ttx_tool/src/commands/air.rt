@@ -1,13 +1,12 @@
 //! `air`: a service on the air from its text, while an author changes it.
 
 ghost use Rattle.std.specs.Prelude.{◌≡◌, ◌∷◌, [], ◌++◌, codes, IfOk, string_bytes};
-ghost use Rattle.ttx_cycle.specs.Counters.{inner_of, faults_of};
+ghost use Rattle.ttx_cycle.specs.Counters.{inner_of};
 ghost use Rattle.ttx_files.specs.Answers.{IsUntouched};
-ghost use Rattle.ttx_files.specs.Devices.{output};
 ghost use Rattle.ttx_broadcast.specs.Broadcasts.{outs_of, wish_of, Broadcasts};
 ghost use Rattle.ttx_broadcast.specs.declared.request.Request as asked;
 ghost use Rattle.ttx_tool.specs.Air.{fields_in, name_in, air_text, air_status, Asks};
-ghost use Rattle.ttx_tool.specs.Devices.{is_tool_write, Fails};
+ghost use Rattle.ttx_tool.specs.Devices.{is_tool_write, Fails, written_to};
 ghost use Rattle.ttx_tool.specs.Reports.{Reports};
 
 use super::reports::write_text;
@@ -112,7 +111,7 @@ pub fn report<W: Write>(
     writer: &mut Counted<W>,
 ) -> Result<u8, ToolFault>
     ensures line { Reports (air_text fault.now ++ 10 ∷ []) (air_status fault.now) (W.contents (inner_of writer.old)) (W.contents (inner_of writer.new)) result }
-    ensures faults { Fails (output (faults_of writer.old) (faults_of writer.new) ∷ []) result }
+    ensures faults { Fails (written_to writer.old writer.new ∷ []) result }
     ensures untouched { IsUntouched is_tool_write result writer.old writer.new }
 {
     let Ok(line) = line_of(alloc, fault) else {

@@ -2,12 +2,12 @@
 
 ghost use Rattle.std.specs.Prelude.{◌∷◌, [], IfSome};
 ghost use Rattle.ttx_book.specs.Books.{book_text};
-ghost use Rattle.ttx_cycle.specs.Counters.{inner_of, faults_of};
+ghost use Rattle.ttx_cycle.specs.Counters.{inner_of};
 ghost use Rattle.ttx_files.specs.Answers.{IsUntouched};
-ghost use Rattle.ttx_files.specs.Devices.{AtCycle, input, output};
+ghost use Rattle.ttx_files.specs.Devices.{AtCycle};
 ghost use Rattle.ttx_pages.specs.Paging.{WritesTextOf};
 ghost use Rattle.ttx_tool.specs.Answers.{pages_status, IsAnswered};
-ghost use Rattle.ttx_tool.specs.Devices.{is_tool_write, Fails};
+ghost use Rattle.ttx_tool.specs.Devices.{is_tool_write, Fails, read_from, written_to};
 
 use crate::faults::ToolFault;
 use std::alloc::Global;
@@ -27,8 +27,7 @@ pub fn run<R: Read, O: Write>(
 ) -> Result<u8, ToolFault>
     ensures bytes { IsAnswered pages_status (λ answer. IfSome (R.remaining (inner_of reader.old))
         (λ bytes. WritesTextOf book_text bytes (O.contents (inner_of file.old)) (O.contents (inner_of file.new)) answer)) result }
-    ensures faults { Fails (input AtCycle (R.remaining (inner_of reader.old)) (faults_of reader.old) (faults_of reader.new)
-        ∷ output (faults_of file.old) (faults_of file.new) ∷ []) result }
+    ensures faults { Fails (read_from AtCycle R.remaining reader.old reader.new ∷ written_to file.old file.new ∷ []) result }
     ensures untouched { IsUntouched is_tool_write result file.old file.new }
 {
     match book(alloc, reader, file) {

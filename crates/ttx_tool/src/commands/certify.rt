@@ -1,13 +1,13 @@
 //! `certify`: whether a cycle is accepted with a certificate for the pages of a service.
 
 ghost use Rattle.std.specs.Prelude.{◌≡◌, ◌∷◌, []};
-ghost use Rattle.ttx_cycle.specs.Counters.{inner_of, faults_of};
+ghost use Rattle.ttx_cycle.specs.Counters.{inner_of};
 ghost use Rattle.ttx_files.specs.Answers.{IsUntouched};
-ghost use Rattle.ttx_files.specs.Devices.{AtCycle, AtService, AtCertificate, input, output, IsFirstFailure};
+ghost use Rattle.ttx_files.specs.Devices.{AtCycle, AtService, AtCertificate, IsFirstFailure};
 ghost use Rattle.ttx_tool.specs.Answers.{verdict_status, late_status, numbers_status, required_status};
 ghost use Rattle.ttx_tool.specs.Certify.{CertifiesBy, CertifiesTwice};
 ghost use Rattle.ttx_tool.specs.Claims.{claim_devices};
-ghost use Rattle.ttx_tool.specs.Devices.{is_tool_write, failed_at};
+ghost use Rattle.ttx_tool.specs.Devices.{is_tool_write, failed_at, read_from, written_to};
 
 use super::{certify_json, certify_lines};
 use crate::claims::Claim;
@@ -125,12 +125,9 @@ pub fn run_twice<A: Read, B: Read, C: Read, D: Read, W: Write>(
     ensures bytes { CertifiesTwice json (A.remaining (inner_of first.old)) (B.remaining (inner_of claim.old.cycle))
         (C.remaining (inner_of claim.old.service)) (D.remaining (inner_of claim.old.certificate))
         (W.contents (inner_of writer.old)) (W.contents (inner_of writer.new)) result }
-    ensures faults { IsFirstFailure
-        (input AtService (C.remaining (inner_of claim.old.service)) (faults_of claim.old.service) (faults_of claim.new.service)
-        ∷ input AtCertificate (D.remaining (inner_of claim.old.certificate)) (faults_of claim.old.certificate) (faults_of claim.new.certificate)
-        ∷ input AtCycle (A.remaining (inner_of first.old)) (faults_of first.old) (faults_of first.new)
-        ∷ input AtCycle (B.remaining (inner_of claim.old.cycle)) (faults_of claim.old.cycle) (faults_of claim.new.cycle)
-        ∷ output (faults_of writer.old) (faults_of writer.new) ∷ []) (failed_at result) }
+    ensures faults { IsFirstFailure (read_from AtService C.remaining claim.old.service claim.new.service
+        ∷ read_from AtCertificate D.remaining claim.old.certificate claim.new.certificate ∷ read_from AtCycle A.remaining first.old first.new
+        ∷ read_from AtCycle B.remaining claim.old.cycle claim.new.cycle ∷ written_to writer.old writer.new ∷ []) (failed_at result) }
     ensures untouched { IsUntouched is_tool_write result writer.old writer.new }
 {
     let (second, service, certificate) = (

@@ -4,9 +4,9 @@ ghost use Rattle.std.specs.Prelude.{◌∷◌, [], None, IfSome};
 ghost use Rattle.ttx_author_files.specs.Decomposing.{DecomposesFile};
 ghost use Rattle.ttx_cycle.specs.Counters.{inner_of, faults_of};
 ghost use Rattle.ttx_files.specs.Answers.{IsUntouched};
-ghost use Rattle.ttx_files.specs.Devices.{AtService, input, output};
+ghost use Rattle.ttx_files.specs.Devices.{AtService, input};
 ghost use Rattle.ttx_tool.specs.Answers.{IsAnswered};
-ghost use Rattle.ttx_tool.specs.Devices.{is_tool_write, Fails};
+ghost use Rattle.ttx_tool.specs.Devices.{is_tool_write, Fails, written_to};
 
 use crate::faults::ToolFault;
 use std::alloc::Global;
@@ -29,8 +29,8 @@ pub fn run<R: Read, O: Write, W: Write>(
     ensures bytes { IsAnswered (λ status. status) (λ answer. IfSome (R.remaining (inner_of reader.old)) (λ bytes. DecomposesFile name.now bytes
         (O.contents (inner_of file.old)) (O.contents (inner_of file.new)) (W.contents (inner_of writer.old)) (W.contents (inner_of writer.new))
         answer)) result }
-    ensures faults { Fails (input AtService None (faults_of reader.old) (faults_of reader.new)
-        ∷ output (faults_of file.old) (faults_of file.new) ∷ output (faults_of writer.old) (faults_of writer.new) ∷ []) result }
+    ensures faults { Fails (input AtService None (faults_of reader.old) (faults_of reader.new) ∷ written_to file.old file.new
+        ∷ written_to writer.old writer.new ∷ []) result }
     ensures untouched { IsUntouched is_tool_write result file.old file.new × IsUntouched is_tool_write result writer.old writer.new }
 {
     match decompose_file(alloc, name, reader, file, writer) {

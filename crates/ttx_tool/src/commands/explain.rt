@@ -1,9 +1,8 @@
 //! `explain`: what a reason means, and what to do.
 
 ghost use Rattle.std.specs.Prelude.{◌<◌, ◌∷◌, [], length};
-ghost use Rattle.ttx_cycle.specs.Counters.{inner_of, faults_of};
-ghost use Rattle.ttx_files.specs.Devices.{output};
-ghost use Rattle.ttx_tool.specs.Devices.{Fails};
+ghost use Rattle.ttx_cycle.specs.Counters.{inner_of};
+ghost use Rattle.ttx_tool.specs.Devices.{Fails, written_to};
 ghost use Rattle.ttx_tool.specs.Explain.{Explains};
 
 use super::reports::write_text;
@@ -26,8 +25,7 @@ pub fn run<W: Write, E: Write>(
     requires { 0 < length table.now }
     ensures bytes { Explains table.now reason.now (W.contents (inner_of writer.old)) (W.contents (inner_of writer.new))
         (E.contents (inner_of errors.old)) (E.contents (inner_of errors.new)) result }
-    ensures faults { Fails (output (faults_of writer.old) (faults_of writer.new) ∷ output (faults_of errors.old) (faults_of errors.new) ∷ [])
-        result }
+    ensures faults { Fails (written_to writer.old writer.new ∷ written_to errors.old errors.new ∷ []) result }
 {
     let Ok(explained) = explain(alloc, table, reason) else {
         return Err(ToolFault::Files(FilesFault::NoMemory));

@@ -1,10 +1,11 @@
 //! `extract`: the service definition that a cycle sends.
 
 ghost use Rattle.std.specs.Prelude.{◌≡◌, ◌∷◌, [], IfSome, IfOk, IfErr, string_bytes};
-ghost use Rattle.ttx_cycle.specs.Counters.{inner_of, faults_of};
+ghost use Rattle.ttx_cycle.specs.Counters.{inner_of};
 ghost use Rattle.ttx_cycle.specs.Cycles.{slots_of};
 ghost use Rattle.ttx_files.specs.Answers.{IsUntouched};
-ghost use Rattle.ttx_files.specs.Devices.{AtCycle, input, output, IsRight};
+ghost use Rattle.ttx_files.specs.Devices.{AtCycle, IsRight};
+ghost use Rattle.ttx_tool.specs.Devices.{read_from, written_to};
 ghost use Rattle.ttx_tool.specs.Extract.{extracted_line, IsExtracted, IsExtractFault, ExtractsText, ExtractsFile, is_extraction_write, FailsExtract};
 
 use crate::faults::{ExtractionFault, ToolFault};
@@ -48,7 +49,7 @@ fn extract_text<R: Read>(
 ) -> Result<Filed<()>, ExtractionFault>
     ensures bytes { IfSome (R.remaining (inner_of reader.old)) (λ bytes. ExtractsText bytes lines result) }
     ensures right { IfOk result (λ _. IsRight AtCycle (R.remaining (inner_of reader.old))) }
-    ensures faults { FailsExtract (input AtCycle (R.remaining (inner_of reader.old)) (faults_of reader.old) (faults_of reader.new) ∷ []) result }
+    ensures faults { FailsExtract (read_from AtCycle R.remaining reader.old reader.new ∷ []) result }
 {
     let cycle = match read_packets(alloc, reader) {
         Ok(cycle) => cycle,
@@ -76,8 +77,8 @@ pub fn run<R: Read, O: Write, W: Write>(
     ensures bytes { IfSome (R.remaining (inner_of reader.old)) (λ bytes. ExtractsFile bytes lines
         (O.contents (inner_of file.old)) (O.contents (inner_of file.new)) (W.contents (inner_of writer.old)) (W.contents (inner_of writer.new))
         result) }
-    ensures faults { FailsExtract (input AtCycle (R.remaining (inner_of reader.old)) (faults_of reader.old) (faults_of reader.new)
-        ∷ output (faults_of file.old) (faults_of file.new) ∷ output (faults_of writer.old) (faults_of writer.new) ∷ []) result }
+    ensures faults { FailsExtract (read_from AtCycle R.remaining reader.old reader.new ∷ written_to file.old file.new
+        ∷ written_to writer.old writer.new ∷ []) result }
     ensures untouched { IsUntouched is_extraction_write result file.old file.new × IsUntouched is_extraction_write result writer.old writer.new }
 {
     let told = match extract_text(alloc, reader, lines) {

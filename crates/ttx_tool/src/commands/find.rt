@@ -1,12 +1,12 @@
 //! `find`: the certificate of a cycle for the pages of a service.
 
 ghost use Rattle.std.specs.Prelude.{◌≡◌, ◌≤◌, ◌∷◌, [], IfSome, IfOk, string_bytes};
-ghost use Rattle.ttx_cycle.specs.Counters.{inner_of, faults_of};
+ghost use Rattle.ttx_cycle.specs.Counters.{inner_of};
 ghost use Rattle.ttx_cycle.specs.Cycles.{slots_of};
 ghost use Rattle.ttx_witness.specs.Certificates.{fields_of};
 ghost use Rattle.ttx_files.specs.Answers.{IsUntouched};
-ghost use Rattle.ttx_files.specs.Devices.{AtCycle, AtService, input, output};
-ghost use Rattle.ttx_tool.specs.Devices.{is_tool_write, Fails, Reads};
+ghost use Rattle.ttx_files.specs.Devices.{AtCycle, AtService};
+ghost use Rattle.ttx_tool.specs.Devices.{is_tool_write, Fails, Reads, read_from, written_to};
 ghost use Rattle.ttx_tool.specs.Find.{found_line, WritesDeadline, TellsVerdict, IsFoundAndTold, FindsText, FindsFiles};
 ghost use Rattle.ttx_tool.specs.PlannedFiles.{FindsDeadline, MakesCertified};
 
@@ -104,8 +104,7 @@ fn find_text<A: Read, B: Read>(
     requires few { repeat ≤ 8 }
     ensures bytes { IfSome (A.remaining (inner_of cycle.old))
         (λ a. IfSome (B.remaining (inner_of service.old)) (λ b. FindsText a b repeat class result)) }
-    ensures faults { Reads (input AtCycle (A.remaining (inner_of cycle.old)) (faults_of cycle.old) (faults_of cycle.new)
-        ∷ input AtService (B.remaining (inner_of service.old)) (faults_of service.old) (faults_of service.new) ∷ []) result }
+    ensures faults { Reads (read_from AtCycle A.remaining cycle.old cycle.new ∷ read_from AtService B.remaining service.old service.new ∷ []) result }
 {
     let inputs = match read_served(alloc, cycle, service) {
         Ok(inputs) => inputs,
@@ -145,9 +144,8 @@ pub fn run<A: Read, B: Read, O: Write, W: Write>(
         (λ a. IfSome (B.remaining (inner_of service.old)) (λ b. FindsDeadline a b class result)) }
     ensures certified { IfSome (A.remaining (inner_of cycle.old)) (λ a. IfSome (B.remaining (inner_of service.old)) (λ b. MakesCertified a b
         (O.contents (inner_of file.old)) (O.contents (inner_of file.new)) result)) }
-    ensures faults { Fails (input AtCycle (A.remaining (inner_of cycle.old)) (faults_of cycle.old) (faults_of cycle.new)
-        ∷ input AtService (B.remaining (inner_of service.old)) (faults_of service.old) (faults_of service.new)
-        ∷ output (faults_of file.old) (faults_of file.new) ∷ output (faults_of writer.old) (faults_of writer.new) ∷ []) result }
+    ensures faults { Fails (read_from AtCycle A.remaining cycle.old cycle.new ∷ read_from AtService B.remaining service.old service.new
+        ∷ written_to file.old file.new ∷ written_to writer.old writer.new ∷ []) result }
     ensures untouched { IsUntouched is_tool_write result file.old file.new × IsUntouched is_tool_write result writer.old writer.new }
 {
     crate::laws::planned_is_found();

@@ -2,11 +2,11 @@
 
 ghost use Rattle.std.specs.Prelude.{◌≡◌, ◌∷◌, [], false, IfSome};
 ghost use Rattle.ttx_certificate.specs.Certificates.{fields_of};
-ghost use Rattle.ttx_cycle.specs.Counters.{inner_of, faults_of};
+ghost use Rattle.ttx_cycle.specs.Counters.{inner_of};
 ghost use Rattle.ttx_cycle.specs.Cycles.{slots_of};
 ghost use Rattle.ttx_files.specs.Answers.{IsUntouched};
-ghost use Rattle.ttx_files.specs.Devices.{AtCycle, AtService, AtCertificate, AtFeed, input, output};
-ghost use Rattle.ttx_tool.specs.Devices.{is_tool_write, Fails, Reads};
+ghost use Rattle.ttx_files.specs.Devices.{AtCycle, AtService, AtCertificate, AtFeed};
+ghost use Rattle.ttx_tool.specs.Devices.{is_tool_write, Fails, Reads, read_from, written_to};
 ghost use Rattle.ttx_tool.specs.Monitor.{feed_status, IsTelling, IsFaultOfFeed, TellsFeed, MonitorsText, Monitors, MeansReceived};
 
 use super::monitor_rows::tell_rows;
@@ -45,7 +45,7 @@ fn tell_bytes<R: Read>(
     ensures bytes { IfSome (R.remaining (inner_of feed.old)) (λ d. TellsFeed
         (IsTelling false (slots_of inputs.now.cycle) inputs.now.service (fields_of inputs.now.certificate) named d) result) }
     ensures own { IsFaultOfFeed result }
-    ensures faults { Fails (input AtFeed (R.remaining (inner_of feed.old)) (faults_of feed.old) (faults_of feed.new) ∷ []) result }
+    ensures faults { Fails (read_from AtFeed R.remaining feed.old feed.new ∷ []) result }
 {
     match monitor_feed(alloc, inputs, named, feed) {
         Ok(told) => Ok(Told {
@@ -67,7 +67,7 @@ fn tell<R: Read>(
     ensures bytes { IfSome (R.remaining (inner_of feed.old)) (λ d. TellsFeed
         (IsTelling how.by_rows (slots_of inputs.now.cycle) inputs.now.service (fields_of inputs.now.certificate) how.start d) result) }
     ensures own { IsFaultOfFeed result }
-    ensures faults { Fails (input AtFeed (R.remaining (inner_of feed.old)) (faults_of feed.old) (faults_of feed.new) ∷ []) result }
+    ensures faults { Fails (read_from AtFeed R.remaining feed.old feed.new ∷ []) result }
 {
     if how.by_rows {
         tell_rows(alloc, inputs, how.start, feed)
@@ -89,10 +89,8 @@ fn monitor_files<A: Read, B: Read, C: Read, R: Read>(
         IfSome (B.remaining (inner_of service.old)) (λ b.
         IfSome (C.remaining (inner_of certificate.old)) (λ c.
         IfSome (R.remaining (inner_of feed.old)) (λ d. MonitorsText how.by_rows a b c how.start d result)))) }
-    ensures faults { Reads (input AtCycle (A.remaining (inner_of cycle.old)) (faults_of cycle.old) (faults_of cycle.new)
-        ∷ input AtService (B.remaining (inner_of service.old)) (faults_of service.old) (faults_of service.new)
-        ∷ input AtCertificate (C.remaining (inner_of certificate.old)) (faults_of certificate.old) (faults_of certificate.new)
-        ∷ input AtFeed (R.remaining (inner_of feed.old)) (faults_of feed.old) (faults_of feed.new) ∷ []) result }
+    ensures faults { Reads (read_from AtCycle A.remaining cycle.old cycle.new ∷ read_from AtService B.remaining service.old service.new
+        ∷ read_from AtCertificate C.remaining certificate.old certificate.new ∷ read_from AtFeed R.remaining feed.old feed.new ∷ []) result }
 {
     let inputs = match read_inputs(alloc, cycle, service, certificate) {
         Ok(inputs) => inputs,
@@ -116,11 +114,9 @@ fn judge<A: Read, B: Read, C: Read, R: Read, W: Write>(
         IfSome (C.remaining (inner_of certificate.old)) (λ c.
         IfSome (R.remaining (inner_of feed.old)) (λ d.
         Monitors how.by_rows a b c how.start d (W.contents (inner_of writer.old)) (W.contents (inner_of writer.new)) result)))) }
-    ensures faults { Fails (input AtCycle (A.remaining (inner_of cycle.old)) (faults_of cycle.old) (faults_of cycle.new)
-        ∷ input AtService (B.remaining (inner_of service.old)) (faults_of service.old) (faults_of service.new)
-        ∷ input AtCertificate (C.remaining (inner_of certificate.old)) (faults_of certificate.old) (faults_of certificate.new)
-        ∷ input AtFeed (R.remaining (inner_of feed.old)) (faults_of feed.old) (faults_of feed.new)
-        ∷ output (faults_of writer.old) (faults_of writer.new) ∷ []) result }
+    ensures faults { Fails (read_from AtCycle A.remaining cycle.old cycle.new ∷ read_from AtService B.remaining service.old service.new
+        ∷ read_from AtCertificate C.remaining certificate.old certificate.new ∷ read_from AtFeed R.remaining feed.old feed.new
+        ∷ written_to writer.old writer.new ∷ []) result }
     ensures untouched { IsUntouched is_tool_write result writer.old writer.new }
 {
     let told = match monitor_files(alloc, cycle, service, certificate, how, feed) {
@@ -158,11 +154,9 @@ pub fn run<A: Read, B: Read, C: Read, R: Read, W: Write>(
         IfSome (C.remaining (inner_of certificate.old)) (λ c.
         IfSome (R.remaining (inner_of feed.old)) (λ d.
         MeansReceived how.by_rows a b c d (W.contents (inner_of writer.old)) (W.contents (inner_of writer.new)) result)))) }
-    ensures faults { Fails (input AtCycle (A.remaining (inner_of cycle.old)) (faults_of cycle.old) (faults_of cycle.new)
-        ∷ input AtService (B.remaining (inner_of service.old)) (faults_of service.old) (faults_of service.new)
-        ∷ input AtCertificate (C.remaining (inner_of certificate.old)) (faults_of certificate.old) (faults_of certificate.new)
-        ∷ input AtFeed (R.remaining (inner_of feed.old)) (faults_of feed.old) (faults_of feed.new)
-        ∷ output (faults_of writer.old) (faults_of writer.new) ∷ []) result }
+    ensures faults { Fails (read_from AtCycle A.remaining cycle.old cycle.new ∷ read_from AtService B.remaining service.old service.new
+        ∷ read_from AtCertificate C.remaining certificate.old certificate.new ∷ read_from AtFeed R.remaining feed.old feed.new
+        ∷ written_to writer.old writer.new ∷ []) result }
     ensures untouched { IsUntouched is_tool_write result writer.old writer.new }
 {
     judge(alloc, cycle, service, certificate, how, feed, writer)

@@ -1,13 +1,13 @@
 //! `monitor --all` and `monitor --every`: what a receiver got of a cycle, reported while it comes.
 
 ghost use Rattle.std.specs.Prelude.{◌≡◌, ◌∷◌, [], IfSome};
-ghost use Rattle.ttx_cycle.specs.Counters.{inner_of, faults_of};
+ghost use Rattle.ttx_cycle.specs.Counters.{inner_of};
 ghost use Rattle.ttx_cycle.specs.Cycles.{slots_of};
-ghost use Rattle.ttx_files.specs.Devices.{AtCycle, AtService, AtCertificate, AtFeed, input, output};
+ghost use Rattle.ttx_files.specs.Devices.{AtCycle, AtService, AtCertificate, AtFeed};
 ghost use Rattle.ttx_monitor.specs.FeedReports.{ReportsFeed};
 ghost use Rattle.ttx_source.specs.Services.{pages_of};
 ghost use Rattle.ttx_witness.specs.Certificates.{certificate_of};
-ghost use Rattle.ttx_tool.specs.Devices.{Fails};
+ghost use Rattle.ttx_tool.specs.Devices.{Fails, read_from, written_to};
 ghost use Rattle.ttx_tool.specs.MonitorReports.{report_status, IsReportedAs, MonitorsLines, MeansReported};
 
 use super::monitor::feed_status;
@@ -38,8 +38,7 @@ fn report<R: Read, W: Write>(
     ensures bytes { IfSome (R.remaining (inner_of feed.old)) (λ bytes.
         IsReportedAs (ReportsFeed (slots_of inputs.now.cycle) (pages_of inputs.now.service) (certificate_of inputs.now.certificate) asked bytes
         (W.contents (inner_of writer.old)) (W.contents (inner_of writer.new))) result) }
-    ensures faults { Fails (input AtFeed (R.remaining (inner_of feed.old)) (faults_of feed.old) (faults_of feed.new)
-        ∷ output (faults_of writer.old) (faults_of writer.new) ∷ []) result }
+    ensures faults { Fails (read_from AtFeed R.remaining feed.old feed.new ∷ written_to writer.old writer.new ∷ []) result }
 {
     match report_feed(alloc, inputs, asked, feed, writer) {
         Ok(verdict) => Ok(report_status(verdict)),
@@ -77,11 +76,9 @@ pub fn run<A: Read, B: Read, C: Read, R: Read, W: Write>(
         IfSome (C.remaining (inner_of certificate.old)) (λ c.
         IfSome (R.remaining (inner_of feed.old)) (λ d.
         MeansReported a b c d (W.contents (inner_of writer.old)) (W.contents (inner_of writer.new)) result)))) }
-    ensures faults { Fails (input AtCycle (A.remaining (inner_of cycle.old)) (faults_of cycle.old) (faults_of cycle.new)
-        ∷ input AtService (B.remaining (inner_of service.old)) (faults_of service.old) (faults_of service.new)
-        ∷ input AtCertificate (C.remaining (inner_of certificate.old)) (faults_of certificate.old) (faults_of certificate.new)
-        ∷ input AtFeed (R.remaining (inner_of feed.old)) (faults_of feed.old) (faults_of feed.new)
-        ∷ output (faults_of writer.old) (faults_of writer.new) ∷ []) result }
+    ensures faults { Fails (read_from AtCycle A.remaining cycle.old cycle.new ∷ read_from AtService B.remaining service.old service.new
+        ∷ read_from AtCertificate C.remaining certificate.old certificate.new ∷ read_from AtFeed R.remaining feed.old feed.new
+        ∷ written_to writer.old writer.new ∷ []) result }
 {
     let inputs = match read_inputs(alloc, cycle, service, certificate) {
         Ok(inputs) => inputs,

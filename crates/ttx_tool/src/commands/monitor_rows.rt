@@ -2,10 +2,10 @@
 
 ghost use Rattle.std.specs.Prelude.{◌≡◌, ◌∷◌, [], true, IfSome};
 ghost use Rattle.ttx_certificate.specs.Certificates.{fields_of};
-ghost use Rattle.ttx_cycle.specs.Counters.{inner_of, faults_of};
+ghost use Rattle.ttx_cycle.specs.Counters.{inner_of};
 ghost use Rattle.ttx_cycle.specs.Cycles.{slots_of};
-ghost use Rattle.ttx_files.specs.Devices.{AtFeed, input};
-ghost use Rattle.ttx_tool.specs.Devices.{Fails};
+ghost use Rattle.ttx_files.specs.Devices.{AtFeed};
+ghost use Rattle.ttx_tool.specs.Devices.{Fails, read_from};
 ghost use Rattle.ttx_tool.specs.Monitor.{row_status, IsTelling, IsFaultOfFeed, TellsFeed};
 
 use crate::faults::ToolFault;
@@ -35,7 +35,7 @@ pub(super) fn tell_rows<R: Read>(
     ensures bytes { IfSome (R.remaining (inner_of feed.old)) (λ d. TellsFeed
         (IsTelling true (slots_of inputs.now.cycle) inputs.now.service (fields_of inputs.now.certificate) named d) result) }
     ensures own { IsFaultOfFeed result }
-    ensures faults { Fails (input AtFeed (R.remaining (inner_of feed.old)) (faults_of feed.old) (faults_of feed.new) ∷ []) result }
+    ensures faults { Fails (read_from AtFeed R.remaining feed.old feed.new ∷ []) result }
 {
     match monitor_rows(alloc, inputs, named, feed) {
         Ok(told) => Ok(Told {

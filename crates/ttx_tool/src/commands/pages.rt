@@ -1,14 +1,14 @@
 //! `pages`: the pages of a packet file.
 
 ghost use Rattle.std.specs.Prelude.{◌∷◌, [], IfSome};
-ghost use Rattle.ttx_cycle.specs.Counters.{inner_of, faults_of};
+ghost use Rattle.ttx_cycle.specs.Counters.{inner_of};
 ghost use Rattle.ttx_files.specs.Answers.{IsUntouched};
-ghost use Rattle.ttx_files.specs.Devices.{AtCycle, input, output};
+ghost use Rattle.ttx_files.specs.Devices.{AtCycle};
 ghost use Rattle.ttx_pages.specs.Listing.{pages_text};
 ghost use Rattle.ttx_pages.specs.Paging.{WritesTextOf};
 ghost use Rattle.ttx_pages.specs.Records.{pages_records};
 ghost use Rattle.ttx_tool.specs.Answers.{pages_status, IsAnswered};
-ghost use Rattle.ttx_tool.specs.Devices.{is_tool_write, Fails};
+ghost use Rattle.ttx_tool.specs.Devices.{is_tool_write, Fails, read_from, written_to};
 
 use crate::faults::ToolFault;
 use std::alloc::Global;
@@ -28,8 +28,7 @@ pub fn run<R: Read, W: Write>(
 ) -> Result<u8, ToolFault>
     ensures bytes { IsAnswered pages_status (λ answer. IfSome (R.remaining (inner_of reader.old))
         (λ bytes. WritesTextOf pages_text bytes (W.contents (inner_of writer.old)) (W.contents (inner_of writer.new)) answer)) result }
-    ensures faults { Fails (input AtCycle (R.remaining (inner_of reader.old)) (faults_of reader.old) (faults_of reader.new)
-        ∷ output (faults_of writer.old) (faults_of writer.new) ∷ []) result }
+    ensures faults { Fails (read_from AtCycle R.remaining reader.old reader.new ∷ written_to writer.old writer.new ∷ []) result }
     ensures untouched { IsUntouched is_tool_write result writer.old writer.new }
 {
     match pages(alloc, reader, writer) {
@@ -46,8 +45,7 @@ pub fn run_json<R: Read, W: Write>(
 ) -> Result<u8, ToolFault>
     ensures bytes { IsAnswered pages_status (λ answer. IfSome (R.remaining (inner_of reader.old))
         (λ bytes. WritesTextOf pages_records bytes (W.contents (inner_of writer.old)) (W.contents (inner_of writer.new)) answer)) result }
-    ensures faults { Fails (input AtCycle (R.remaining (inner_of reader.old)) (faults_of reader.old) (faults_of reader.new)
-        ∷ output (faults_of writer.old) (faults_of writer.new) ∷ []) result }
+    ensures faults { Fails (read_from AtCycle R.remaining reader.old reader.new ∷ written_to writer.old writer.new ∷ []) result }
     ensures untouched { IsUntouched is_tool_write result writer.old writer.new }
 {
     match pages_json(alloc, reader, writer) {

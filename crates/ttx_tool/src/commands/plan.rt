@@ -1,10 +1,10 @@
 //! `plan`: the cycle that carries a service.
 
 ghost use Rattle.std.specs.Prelude.{◌≡◌, ◌∷◌, [], IfSome, IfOk, string_bytes};
-ghost use Rattle.ttx_cycle.specs.Counters.{inner_of, faults_of};
+ghost use Rattle.ttx_cycle.specs.Counters.{inner_of};
 ghost use Rattle.ttx_files.specs.Answers.{IsUntouched};
-ghost use Rattle.ttx_files.specs.Devices.{AtService, input, output};
-ghost use Rattle.ttx_tool.specs.Devices.{is_tool_write, Fails, Reads};
+ghost use Rattle.ttx_files.specs.Devices.{AtService};
+ghost use Rattle.ttx_tool.specs.Devices.{is_tool_write, Fails, Reads, read_from, written_to};
 ghost use Rattle.ttx_tool.specs.Plan.{PlansText, planned_line, Plans};
 
 use crate::faults::ToolFault;
@@ -21,7 +21,7 @@ fn plan_text<R: Read>(
     receivers: Receivers,
 ) -> Result<Cycle, ToolFault>
     ensures bytes { IfSome (R.remaining (inner_of reader.old)) (λ bytes. PlansText bytes receivers.late receivers.class result) }
-    ensures faults { Reads (input AtService (R.remaining (inner_of reader.old)) (faults_of reader.old) (faults_of reader.new) ∷ []) result }
+    ensures faults { Reads (read_from AtService R.remaining reader.old reader.new ∷ []) result }
 {
     let service = match read_definition(alloc, reader) {
         Ok(service) => service,
@@ -55,8 +55,8 @@ pub fn run<R: Read, O: Write, W: Write>(
     ensures bytes { IfSome (R.remaining (inner_of reader.old)) (λ bytes. Plans bytes receivers.late receivers.class
         (O.contents (inner_of file.old)) (O.contents (inner_of file.new)) (W.contents (inner_of writer.old)) (W.contents (inner_of writer.new))
         result) }
-    ensures faults { Fails (input AtService (R.remaining (inner_of reader.old)) (faults_of reader.old) (faults_of reader.new)
-        ∷ output (faults_of file.old) (faults_of file.new) ∷ output (faults_of writer.old) (faults_of writer.new) ∷ []) result }
+    ensures faults { Fails (read_from AtService R.remaining reader.old reader.new ∷ written_to file.old file.new ∷ written_to writer.old writer.new
+        ∷ []) result }
     ensures untouched { IsUntouched is_tool_write result file.old file.new × IsUntouched is_tool_write result writer.old writer.new }
 {
     let cycle = match plan_text(alloc, reader, receivers) {

@@ -1,11 +1,11 @@
 //! `plan --spread`: the cycle that carries a service in rounds of about the same length, and keeps its promises and its stays.
 
 ghost use Rattle.std.specs.Prelude.{◌≡◌, ◌≤◌, ◌∷◌, [], IfSome, IfOk, IfErr, Ok, Err};
-ghost use Rattle.ttx_cycle.specs.Counters.{inner_of, faults_of};
+ghost use Rattle.ttx_cycle.specs.Counters.{inner_of};
 ghost use Rattle.ttx_cycle.specs.Cycles.{slots_of};
 ghost use Rattle.ttx_files.specs.Answers.{IsUntouched};
-ghost use Rattle.ttx_files.specs.Devices.{AtService, input, output};
-ghost use Rattle.ttx_tool.specs.Devices.{is_tool_write, Fails, Reads};
+ghost use Rattle.ttx_files.specs.Devices.{AtService};
+ghost use Rattle.ttx_tool.specs.Devices.{is_tool_write, Fails, Reads, read_from, written_to};
 ghost use Rattle.ttx_tool.specs.Reports.{Reports};
 ghost use Rattle.ttx_tool.specs.SpreadPlans.{SaysFault, Spreads, WritesPlan, PlansSpread};
 
@@ -71,7 +71,7 @@ fn spread_text<R: Read>(
     requires some { 1 ≤ viewers.repeat }
     requires few { viewers.repeat ≤ 8 }
     ensures bytes { IfSome (R.remaining (inner_of reader.old)) (λ bytes. Spreads bytes viewers result) }
-    ensures faults { Reads (input AtService (R.remaining (inner_of reader.old)) (faults_of reader.old) (faults_of reader.new) ∷ []) result }
+    ensures faults { Reads (read_from AtService R.remaining reader.old reader.new ∷ []) result }
 {
     let mut staying = match read_staying(alloc, reader) {
         Ok(staying) => staying,
@@ -98,7 +98,7 @@ fn write_plan<O: Write, W: Write>(
 ) -> Result<u8, ToolFault>
     ensures bytes { WritesPlan (slots_of cycle.now) (O.contents (inner_of file.old)) (O.contents (inner_of file.new))
         (W.contents (inner_of writer.old)) (W.contents (inner_of writer.new)) result }
-    ensures faults { Fails (output (faults_of file.old) (faults_of file.new) ∷ output (faults_of writer.old) (faults_of writer.new) ∷ []) result }
+    ensures faults { Fails (written_to file.old file.new ∷ written_to writer.old writer.new ∷ []) result }
     ensures untouched { IsUntouched is_tool_write result file.old file.new × IsUntouched is_tool_write result writer.old writer.new }
 {
     let slots = cycle.slots();
@@ -130,8 +130,8 @@ pub fn run<R: Read, O: Write, W: Write>(
     ensures bytes { IfSome (R.remaining (inner_of reader.old)) (λ bytes. PlansSpread bytes viewers
         (O.contents (inner_of file.old)) (O.contents (inner_of file.new)) (W.contents (inner_of writer.old)) (W.contents (inner_of writer.new))
         result) }
-    ensures faults { Fails (input AtService (R.remaining (inner_of reader.old)) (faults_of reader.old) (faults_of reader.new)
-        ∷ output (faults_of file.old) (faults_of file.new) ∷ output (faults_of writer.old) (faults_of writer.new) ∷ []) result }
+    ensures faults { Fails (read_from AtService R.remaining reader.old reader.new ∷ written_to file.old file.new ∷ written_to writer.old writer.new
+        ∷ []) result }
     ensures untouched { IsUntouched is_tool_write result file.old file.new × IsUntouched is_tool_write result writer.old writer.new }
 {
     match spread_text(alloc, reader, viewers) {

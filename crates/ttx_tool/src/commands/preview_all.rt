@@ -3,10 +3,10 @@
 ghost use Rattle.std.specs.Prelude.{◌≡◌, ◌∷◌, ◌++◌, [], None, IfSome, IfOk, OnOk, map, string_bytes};
 ghost use Rattle.ttx_cycle.specs.Counters.{inner_of, faults_of};
 ghost use Rattle.ttx_files.specs.Answers.{IsUntouched};
-ghost use Rattle.ttx_files.specs.Devices.{AtService, input, output};
+ghost use Rattle.ttx_files.specs.Devices.{AtService, input};
 ghost use Rattle.ttx_page.specs.Views.{page_of};
 ghost use Rattle.ttx_source.specs.Services.{read_bytes};
-ghost use Rattle.ttx_tool.specs.Devices.{is_tool_write, Fails};
+ghost use Rattle.ttx_tool.specs.Devices.{is_tool_write, Fails, written_to};
 ghost use Rattle.ttx_tool.specs.PreviewAll.{page_part, pages_part, ShowsPages, PreviewsText, Previews};
 
 use super::reports::write_text;
@@ -89,8 +89,7 @@ pub fn run<R: Read, W: Write>(
 ) -> Result<u8, ToolFault>
     ensures bytes { IfSome (R.remaining (inner_of reader.old))
         (λ bytes. Previews bytes form reveal (W.contents (inner_of writer.old)) (W.contents (inner_of writer.new)) result) }
-    ensures faults { Fails (input AtService None (faults_of reader.old) (faults_of reader.new)
-        ∷ output (faults_of writer.old) (faults_of writer.new) ∷ []) result }
+    ensures faults { Fails (input AtService None (faults_of reader.old) (faults_of reader.new) ∷ written_to writer.old writer.new ∷ []) result }
     ensures untouched { IsUntouched is_tool_write result writer.old writer.new }
 {
     let preview = match preview_service(alloc, reader, form, reveal) {

@@ -1,9 +1,9 @@
 //! What is read of the text of a service with promises, alone and after a packet file.
 
 ghost use Rattle.std.specs.Prelude.{◌∷◌, [], IfSome};
-ghost use Rattle.ttx_cycle.specs.Counters.{inner_of, faults_of};
-ghost use Rattle.ttx_files.specs.Devices.{AtCycle, AtService, input};
-ghost use Rattle.ttx_tool.specs.Devices.{Reads};
+ghost use Rattle.ttx_cycle.specs.Counters.{inner_of};
+ghost use Rattle.ttx_files.specs.Devices.{AtCycle, AtService};
+ghost use Rattle.ttx_tool.specs.Devices.{Reads, read_from};
 ghost use Rattle.ttx_tool.specs.Promised.{DefinesPromised, ReadsPromised, ReadsPromisedInputs};
 
 use crate::faults::ToolFault;
@@ -47,7 +47,7 @@ pub(super) fn read_promised<R: Read>(
     reader: &mut Counted<R>,
 ) -> Result<Promised, ToolFault>
     ensures bytes { IfSome (R.remaining (inner_of reader.old)) (λ bytes. ReadsPromised bytes result) }
-    ensures faults { Reads (input AtService (R.remaining (inner_of reader.old)) (faults_of reader.old) (faults_of reader.new) ∷ []) result }
+    ensures faults { Reads (read_from AtService R.remaining reader.old reader.new ∷ []) result }
 {
     let text = match read_service_text(alloc, reader) {
         Ok(text) => text,
@@ -67,8 +67,7 @@ pub(super) fn read_promised_inputs<A: Read, B: Read>(
 ) -> Result<PromisedInputs, ToolFault>
     ensures bytes { IfSome (A.remaining (inner_of cycle.old))
         (λ a. IfSome (B.remaining (inner_of service.old)) (λ b. ReadsPromisedInputs a b result)) }
-    ensures faults { Reads (input AtCycle (A.remaining (inner_of cycle.old)) (faults_of cycle.old) (faults_of cycle.new)
-        ∷ input AtService (B.remaining (inner_of service.old)) (faults_of service.old) (faults_of service.new) ∷ []) result }
+    ensures faults { Reads (read_from AtCycle A.remaining cycle.old cycle.new ∷ read_from AtService B.remaining service.old service.new ∷ []) result }
 {
     let cycle = match read_packets(alloc, cycle) {
         Ok(cycle) => cycle,

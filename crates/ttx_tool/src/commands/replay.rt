@@ -2,14 +2,14 @@
 
 ghost use Rattle.std.specs.Prelude.{◌≡◌, ◌<◌, ◌∷◌, [], ℕ, List, Some, IfSome, IfOk, length, map, slice_get, string_bytes};
 ghost use Rattle.ttx_files.specs.Answers.{IsUntouched};
-ghost use Rattle.ttx_files.specs.Devices.{AtCycle, AtService, AtCounter, input, output};
+ghost use Rattle.ttx_files.specs.Devices.{AtCycle, AtService, AtCounter};
 ghost use Rattle.ttx_counter.specs.Counters.{CounterRun, counter_run_of};
-ghost use Rattle.ttx_cycle.specs.Counters.{inner_of, faults_of};
+ghost use Rattle.ttx_cycle.specs.Counters.{inner_of};
 ghost use Rattle.ttx_cycle.specs.Cycles.{slots_of};
 ghost use Rattle.ttx_page.specs.Pages as definitions;
 ghost use Rattle.ttx_page.specs.Views.{page_of, memory_of};
 ghost use Rattle.ttx_source.specs.Services.{pages_of};
-ghost use Rattle.ttx_tool.specs.Devices.{is_tool_write, Fails, Reads};
+ghost use Rattle.ttx_tool.specs.Devices.{is_tool_write, Fails, Reads, read_from, written_to};
 ghost use Rattle.ttx_tool.specs.Replay.{replay_text, none_text, IsReplay, ReadsCounter, ReplaysText, Replays};
 
 use super::refute::counter_line;
@@ -29,7 +29,7 @@ use ttx_witness::NoMemory;
 // Reads the text of a counter-run.
 fn read_run<R: Read>(alloc: Global, reader: &mut Counted<R>) -> Result<Counter, ToolFault>
     ensures bytes { IfSome (R.remaining (inner_of reader.old)) (λ bytes. ReadsCounter bytes result) }
-    ensures faults { Reads (input AtCounter (R.remaining (inner_of reader.old)) (faults_of reader.old) (faults_of reader.new) ∷ []) result }
+    ensures faults { Reads (read_from AtCounter R.remaining reader.old reader.new ∷ []) result }
 {
     let text = match read_text(alloc, reader) {
         Ok(text) => text,
@@ -153,9 +153,8 @@ fn replay_files<T: Teller, A: Read, B: Read, C: Read>(
     ensures bytes { IfSome (A.remaining (inner_of cycle.old))
         (λ a. IfSome (B.remaining (inner_of service.old)) (λ b. IfSome (C.remaining (inner_of counter.old))
         (λ c. ReplaysText (T.says teller.now) a b c result))) }
-    ensures faults { Reads (input AtCycle (A.remaining (inner_of cycle.old)) (faults_of cycle.old) (faults_of cycle.new)
-        ∷ input AtService (B.remaining (inner_of service.old)) (faults_of service.old) (faults_of service.new)
-        ∷ input AtCounter (C.remaining (inner_of counter.old)) (faults_of counter.old) (faults_of counter.new) ∷ []) result }
+    ensures faults { Reads (read_from AtCycle A.remaining cycle.old cycle.new ∷ read_from AtService B.remaining service.old service.new
+        ∷ read_from AtCounter C.remaining counter.old counter.new ∷ []) result }
 {
     let inputs = match read_served(alloc, cycle, service) {
         Ok(inputs) => inputs,
@@ -186,10 +185,8 @@ pub(super) fn answer<T: Teller, A: Read, B: Read, C: Read, W: Write>(
     ensures bytes { IfSome (A.remaining (inner_of cycle.old))
         (λ a. IfSome (B.remaining (inner_of service.old)) (λ b. IfSome (C.remaining (inner_of counter.old)) (λ c.
         Replays (T.says teller.now) a b c (W.contents (inner_of writer.old)) (W.contents (inner_of writer.new)) result))) }
-    ensures faults { Fails (input AtCycle (A.remaining (inner_of cycle.old)) (faults_of cycle.old) (faults_of cycle.new)
-        ∷ input AtService (B.remaining (inner_of service.old)) (faults_of service.old) (faults_of service.new)
-        ∷ input AtCounter (C.remaining (inner_of counter.old)) (faults_of counter.old) (faults_of counter.new)
-        ∷ output (faults_of writer.old) (faults_of writer.new) ∷ []) result }
+    ensures faults { Fails (read_from AtCycle A.remaining cycle.old cycle.new ∷ read_from AtService B.remaining service.old service.new
+        ∷ read_from AtCounter C.remaining counter.old counter.new ∷ written_to writer.old writer.new ∷ []) result }
     ensures untouched { IsUntouched is_tool_write result writer.old writer.new }
 {
     let told = match replay_files(alloc, teller, cycle, service, counter) {
@@ -215,10 +212,8 @@ pub fn run<A: Read, B: Read, C: Read, W: Write>(
     ensures bytes { IfSome (A.remaining (inner_of cycle.old))
         (λ a. IfSome (B.remaining (inner_of service.old)) (λ b. IfSome (C.remaining (inner_of counter.old)) (λ c. Replays IsReplay a b c
         (W.contents (inner_of writer.old)) (W.contents (inner_of writer.new)) result))) }
-    ensures faults { Fails (input AtCycle (A.remaining (inner_of cycle.old)) (faults_of cycle.old) (faults_of cycle.new)
-        ∷ input AtService (B.remaining (inner_of service.old)) (faults_of service.old) (faults_of service.new)
-        ∷ input AtCounter (C.remaining (inner_of counter.old)) (faults_of counter.old) (faults_of counter.new)
-        ∷ output (faults_of writer.old) (faults_of writer.new) ∷ []) result }
+    ensures faults { Fails (read_from AtCycle A.remaining cycle.old cycle.new ∷ read_from AtService B.remaining service.old service.new
+        ∷ read_from AtCounter C.remaining counter.old counter.new ∷ written_to writer.old writer.new ∷ []) result }
     ensures untouched { IsUntouched is_tool_write result writer.old writer.new }
 {
     answer(alloc, &InWords, cycle, service, counter, writer)

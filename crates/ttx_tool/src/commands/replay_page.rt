@@ -2,12 +2,12 @@
 
 ghost use Rattle.std.specs.Prelude.{◌∷◌, [], IfSome, IfOk, string_bytes};
 ghost use Rattle.ttx_counter.specs.Counters.{counter_run_of};
-ghost use Rattle.ttx_cycle.specs.Counters.{inner_of, faults_of};
+ghost use Rattle.ttx_cycle.specs.Counters.{inner_of};
 ghost use Rattle.ttx_cycle.specs.Cycles.{slots_of};
 ghost use Rattle.ttx_files.specs.Answers.{IsUntouched};
-ghost use Rattle.ttx_files.specs.Devices.{AtCycle, AtService, AtCounter, input, output};
+ghost use Rattle.ttx_files.specs.Devices.{AtCycle, AtService, AtCounter};
 ghost use Rattle.ttx_source.specs.Services.{pages_of};
-ghost use Rattle.ttx_tool.specs.Devices.{is_tool_write, Fails};
+ghost use Rattle.ttx_tool.specs.Devices.{is_tool_write, Fails, read_from, written_to};
 ghost use Rattle.ttx_tool.specs.Replay.{Replays};
 ghost use Rattle.ttx_tool.specs.ReplayPage.{IsShown};
 
@@ -78,10 +78,8 @@ pub fn run<A: Read, B: Read, C: Read, W: Write>(
     ensures bytes { IfSome (A.remaining (inner_of cycle.old))
         (λ a. IfSome (B.remaining (inner_of service.old)) (λ b. IfSome (C.remaining (inner_of counter.old)) (λ c.
         Replays (IsShown form) a b c (W.contents (inner_of writer.old)) (W.contents (inner_of writer.new)) result))) }
-    ensures faults { Fails (input AtCycle (A.remaining (inner_of cycle.old)) (faults_of cycle.old) (faults_of cycle.new)
-        ∷ input AtService (B.remaining (inner_of service.old)) (faults_of service.old) (faults_of service.new)
-        ∷ input AtCounter (C.remaining (inner_of counter.old)) (faults_of counter.old) (faults_of counter.new)
-        ∷ output (faults_of writer.old) (faults_of writer.new) ∷ []) result }
+    ensures faults { Fails (read_from AtCycle A.remaining cycle.old cycle.new ∷ read_from AtService B.remaining service.old service.new
+        ∷ read_from AtCounter C.remaining counter.old counter.new ∷ written_to writer.old writer.new ∷ []) result }
     ensures untouched { IsUntouched is_tool_write result writer.old writer.new }
 {
     answer(alloc, &Shown { form }, cycle, service, counter, writer)

@@ -2,13 +2,13 @@
 
 ghost use Rattle.std.specs.Prelude.{◌∷◌, [], codes, map, Option, option_map, IfSome, IfOk, string_bytes};
 ghost use Rattle.ttx_certificate.specs.Certificates.{fields_of};
-ghost use Rattle.ttx_cycle.specs.Counters.{inner_of, faults_of};
+ghost use Rattle.ttx_cycle.specs.Counters.{inner_of};
 ghost use Rattle.ttx_cycle.specs.Cycles.{slots_of};
 ghost use Rattle.ttx_files.specs.Answers.{IsUntouched};
-ghost use Rattle.ttx_files.specs.Devices.{AtCycle, AtService, AtCertificate, input, output};
+ghost use Rattle.ttx_files.specs.Devices.{AtCycle, AtService, AtCertificate};
 ghost use Rattle.ttx_report.specs.Files.{marks_view};
 ghost use Rattle.ttx_source.specs.PromiseViews.{promise_view};
-ghost use Rattle.ttx_tool.specs.Devices.{is_tool_write, Fails, Reads};
+ghost use Rattle.ttx_tool.specs.Devices.{is_tool_write, Fails, Reads, read_from, written_to};
 ghost use Rattle.ttx_tool.specs.Reports.{Reports};
 ghost use Rattle.ttx_tool.specs.Report.{ReadsDefined, ReadsSealed, ReadsFiling, TellsReport, ReportsText, ReportsFiles};
 
@@ -51,7 +51,7 @@ struct Filed {
 // Reads the text of a service with its promises.
 fn read_defined<R: Read>(alloc: Global, reader: &mut Counted<R>) -> Result<Defined, ToolFault>
     ensures bytes { IfSome (R.remaining (inner_of reader.old)) (λ bytes. ReadsDefined bytes result) }
-    ensures faults { Reads (input AtService (R.remaining (inner_of reader.old)) (faults_of reader.old) (faults_of reader.new) ∷ []) result }
+    ensures faults { Reads (read_from AtService R.remaining reader.old reader.new ∷ []) result }
 {
     let text = match read_service_text(alloc, reader) {
         Ok(text) => text,
@@ -66,7 +66,7 @@ fn read_defined<R: Read>(alloc: Global, reader: &mut Counted<R>) -> Result<Defin
 // Reads the text of a certificate.
 fn read_sealed<R: Read>(alloc: Global, reader: &mut Counted<R>) -> Result<Sealed, ToolFault>
     ensures bytes { IfSome (R.remaining (inner_of reader.old)) (λ bytes. ReadsSealed bytes result) }
-    ensures faults { Reads (input AtCertificate (R.remaining (inner_of reader.old)) (faults_of reader.old) (faults_of reader.new) ∷ []) result }
+    ensures faults { Reads (read_from AtCertificate R.remaining reader.old reader.new ∷ []) result }
 {
     let which = TextFile::Certificate;
     let text = match read_text(alloc, reader) {
@@ -91,9 +91,8 @@ fn read_filed<A: Read, B: Read, C: Read>(
     ensures bytes { IfSome (A.remaining (inner_of cycle.old))
         (λ a. IfSome (B.remaining (inner_of service.old)) (λ b. IfSome (C.remaining (inner_of certificate.old))
         (λ c. ReadsFiling a b c result))) }
-    ensures faults { Reads (input AtCycle (A.remaining (inner_of cycle.old)) (faults_of cycle.old) (faults_of cycle.new)
-        ∷ input AtService (B.remaining (inner_of service.old)) (faults_of service.old) (faults_of service.new)
-        ∷ input AtCertificate (C.remaining (inner_of certificate.old)) (faults_of certificate.old) (faults_of certificate.new) ∷ []) result }
+    ensures faults { Reads (read_from AtCycle A.remaining cycle.old cycle.new ∷ read_from AtService B.remaining service.old service.new
+        ∷ read_from AtCertificate C.remaining certificate.old certificate.new ∷ []) result }
 {
     let cycle = match read_packets(alloc, cycle) {
         Ok(cycle) => cycle,
@@ -152,9 +151,8 @@ fn report_text<A: Read, B: Read, C: Read>(
     ensures bytes { IfSome (A.remaining (inner_of cycle.old))
         (λ a. IfSome (B.remaining (inner_of service.old)) (λ b. IfSome (C.remaining (inner_of certificate.old))
         (λ c. ReportsText a b c (option_map (λ d. d.now) date.entry) result))) }
-    ensures faults { Reads (input AtCycle (A.remaining (inner_of cycle.old)) (faults_of cycle.old) (faults_of cycle.new)
-        ∷ input AtService (B.remaining (inner_of service.old)) (faults_of service.old) (faults_of service.new)
-        ∷ input AtCertificate (C.remaining (inner_of certificate.old)) (faults_of certificate.old) (faults_of certificate.new) ∷ []) result }
+    ensures faults { Reads (read_from AtCycle A.remaining cycle.old cycle.new ∷ read_from AtService B.remaining service.old service.new
+        ∷ read_from AtCertificate C.remaining certificate.old certificate.new ∷ []) result }
 {
     let filed = match read_filed(alloc, cycle, service, certificate) {
         Ok(filed) => filed,
@@ -182,10 +180,8 @@ pub fn run<A: Read, B: Read, C: Read, W: Write>(
     ensures bytes { IfSome (A.remaining (inner_of cycle.old))
         (λ a. IfSome (B.remaining (inner_of service.old)) (λ b. IfSome (C.remaining (inner_of certificate.old)) (λ c.
         ReportsFiles a b c (option_map (λ d. d.now) date.entry) (W.contents (inner_of writer.old)) (W.contents (inner_of writer.new)) result))) }
-    ensures faults { Fails (input AtCycle (A.remaining (inner_of cycle.old)) (faults_of cycle.old) (faults_of cycle.new)
-        ∷ input AtService (B.remaining (inner_of service.old)) (faults_of service.old) (faults_of service.new)
-        ∷ input AtCertificate (C.remaining (inner_of certificate.old)) (faults_of certificate.old) (faults_of certificate.new)
-        ∷ output (faults_of writer.old) (faults_of writer.new) ∷ []) result }
+    ensures faults { Fails (read_from AtCycle A.remaining cycle.old cycle.new ∷ read_from AtService B.remaining service.old service.new
+        ∷ read_from AtCertificate C.remaining certificate.old certificate.new ∷ written_to writer.old writer.new ∷ []) result }
     ensures untouched { IsUntouched is_tool_write result writer.old writer.new }
 {
     let told = match report_text(alloc, cycle, service, certificate, date) {
@@ -200,7 +196,7 @@ pub fn run<A: Read, B: Read, C: Read, W: Write>(
 /// After `Write` exactly the first `written` bytes of the line went out; after any other fault the writer is unchanged.
 pub fn refuse_date<W: Write>(writer: &mut Counted<W>) -> Result<u8, ToolFault>
     ensures line { Reports (codes "refused: date\n") 2 (W.contents (inner_of writer.old)) (W.contents (inner_of writer.new)) result }
-    ensures faults { Fails (output (faults_of writer.old) (faults_of writer.new) ∷ []) result }
+    ensures faults { Fails (written_to writer.old writer.new ∷ []) result }
     ensures untouched { IsUntouched is_tool_write result writer.old writer.new }
 {
     write_text(writer, "refused: date\n", 2)

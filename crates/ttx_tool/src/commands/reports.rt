@@ -2,11 +2,10 @@
 
 ghost use Rattle.std.specs.Prelude.{◌≡◌, [], ◌∷◌, ◌++◌, IfOk, codes, string_bytes};
 ghost use Rattle.ttx_files.specs.Answers.{IsUntouched};
-ghost use Rattle.ttx_files.specs.Devices.{output};
-ghost use Rattle.ttx_cycle.specs.Counters.{inner_of, faults_of};
+ghost use Rattle.ttx_cycle.specs.Counters.{inner_of};
 ghost use Rattle.ttx_extract.specs.Refusals.{refusal_text};
 ghost use Rattle.ttx_source.specs.Faults.{fault_of};
-ghost use Rattle.ttx_tool.specs.Devices.{is_tool_write, Fails};
+ghost use Rattle.ttx_tool.specs.Devices.{is_tool_write, Fails, written_to};
 ghost use Rattle.ttx_tool.specs.Reports.{service_text, service_status, certificate_refusal, extract_text, extract_status, run_text, run_status, files_text, files_status};
 ghost use Rattle.ttx_tool.specs.Reports.{refused_service, air_line, fault_line, status_of, Reports, ReportsWords};
 
@@ -234,7 +233,7 @@ pub(super) fn write_text<W: Write>(
     status: u8,
 ) -> Result<u8, ToolFault>
     ensures bytes { Reports text.now status (W.contents (inner_of writer.old)) (W.contents (inner_of writer.new)) result }
-    ensures faults { Fails (output (faults_of writer.old) (faults_of writer.new) ∷ []) result }
+    ensures faults { Fails (written_to writer.old writer.new ∷ []) result }
     ensures untouched { IsUntouched is_tool_write result writer.old writer.new }
 {
     match write_line(writer, text.as_bytes()) {
@@ -252,7 +251,7 @@ pub fn report_fault<W: Write>(
     writer: &mut Counted<W>,
 ) -> Result<u8, ToolFault>
     ensures line { Reports (fault_line fault.now) (status_of fault.now) (W.contents (inner_of writer.old)) (W.contents (inner_of writer.new)) result }
-    ensures faults { Fails (output (faults_of writer.old) (faults_of writer.new) ∷ []) result }
+    ensures faults { Fails (written_to writer.old writer.new ∷ []) result }
     ensures untouched { IsUntouched is_tool_write result writer.old writer.new }
 {
     let Ok(line) = line_of(alloc, fault) else {
@@ -271,7 +270,7 @@ pub fn report_extraction<W: Write>(
 ) -> Result<u8, ToolFault>
     ensures line { Reports (extract_text fault.now ++ 10 ∷ []) (extract_status fault.now) (W.contents (inner_of writer.old))
         (W.contents (inner_of writer.new)) result }
-    ensures faults { Fails (output (faults_of writer.old) (faults_of writer.new) ∷ []) result }
+    ensures faults { Fails (written_to writer.old writer.new ∷ []) result }
     ensures untouched { IsUntouched is_tool_write result writer.old writer.new }
 {
     let Ok(line) = extract_line(alloc, fault) else {
@@ -296,7 +295,7 @@ fn refused_air<'a>(refusal: AirRefusal) -> &'a str
 /// After `Write` exactly the first `written` bytes of the line went out; after any other fault the writer is unchanged.
 pub fn report_air<W: Write>(refusal: AirRefusal, writer: &mut Counted<W>) -> Result<u8, ToolFault>
     ensures line { Reports (air_line refusal) 2 (W.contents (inner_of writer.old)) (W.contents (inner_of writer.new)) result }
-    ensures faults { Fails (output (faults_of writer.old) (faults_of writer.new) ∷ []) result }
+    ensures faults { Fails (written_to writer.old writer.new ∷ []) result }
     ensures untouched { IsUntouched is_tool_write result writer.old writer.new }
 {
     write_text(writer, refused_air(refusal), 2)
@@ -311,7 +310,7 @@ pub fn report_words<W: Write>(
     writer: &mut Counted<W>,
 ) -> Result<u8, ToolFault>
     ensures line { ReportsWords fault.now (W.contents (inner_of writer.old)) (W.contents (inner_of writer.new)) result }
-    ensures faults { Fails (output (faults_of writer.old) (faults_of writer.new) ∷ []) result }
+    ensures faults { Fails (written_to writer.old writer.new ∷ []) result }
     ensures untouched { IsUntouched is_tool_write result writer.old writer.new }
 {
     match fault {

@@ -1,10 +1,10 @@
 //! `send`: a cycle again and again, with the time.
 
 ghost use Rattle.std.specs.Prelude.{◌≡◌, ◌∷◌, [], IfSome};
-ghost use Rattle.ttx_cycle.specs.Counters.{inner_of, faults_of};
+ghost use Rattle.ttx_cycle.specs.Counters.{inner_of};
 ghost use Rattle.ttx_files.specs.Answers.{IsUntouched};
-ghost use Rattle.ttx_files.specs.Devices.{AtCycle, input, output};
-ghost use Rattle.ttx_tool.specs.Devices.{is_tool_write, Fails};
+ghost use Rattle.ttx_files.specs.Devices.{AtCycle};
+ghost use Rattle.ttx_tool.specs.Devices.{is_tool_write, Fails, read_from, written_to};
 ghost use Rattle.ttx_tool.specs.Send.{Sends};
 
 use crate::faults::ToolFault;
@@ -29,8 +29,7 @@ pub fn run<C: Clock, R: Read, W: Write>(
 ) -> Result<(), ToolFault>
     ensures bytes { IfSome (R.remaining (inner_of reader.old))
         (λ bytes. Sends bytes (C.shows clock.now) sending.now (W.contents (inner_of writer.old)) (W.contents (inner_of writer.new)) result) }
-    ensures faults { Fails (input AtCycle (R.remaining (inner_of reader.old)) (faults_of reader.old) (faults_of reader.new)
-        ∷ output (faults_of writer.old) (faults_of writer.new) ∷ []) result }
+    ensures faults { Fails (read_from AtCycle R.remaining reader.old reader.new ∷ written_to writer.old writer.new ∷ []) result }
     ensures untouched { IsUntouched is_tool_write result writer.old writer.new }
 {
     let cycle = match read_packets(alloc, reader) {

@@ -1,13 +1,13 @@
 //! `show`: a page as a receiver shows it after some slots of a cycle.
 
 ghost use Rattle.std.specs.Prelude.{◌≡◌, ◌∷◌, [], IfSome, IfOk, fold, string_bytes};
-ghost use Rattle.ttx_cycle.specs.Counters.{inner_of, faults_of};
+ghost use Rattle.ttx_cycle.specs.Counters.{inner_of};
 ghost use Rattle.ttx_page.specs.Memories.{blank_memory};
 ghost use Rattle.ttx_page.specs.Views.{memory_of};
 ghost use Rattle.ttx_picture.specs.Forms.{picture_of};
 ghost use Rattle.ttx_files.specs.Answers.{IsUntouched};
-ghost use Rattle.ttx_files.specs.Devices.{AtCycle, input, output};
-ghost use Rattle.ttx_tool.specs.Devices.{is_tool_write, Fails};
+ghost use Rattle.ttx_files.specs.Devices.{AtCycle};
+ghost use Rattle.ttx_tool.specs.Devices.{is_tool_write, Fails, read_from, written_to};
 ghost use Rattle.ttx_tool.specs.Receive.{tuned_as, tuned_to, held_by};
 ghost use Rattle.ttx_tool.specs.Show.{no_page_line, shown_text, shown_status, ShowsFile};
 
@@ -70,8 +70,7 @@ fn show_by<R: Read, X: Receiver + Drop, W: Write>(
         (λ bytes. ShowsFile (tuned_as (X.kind receiver) (X.field receiver) (X.tuned receiver))
         (λ sent. X.held (fold X.next receiver sent)) tuning.now.start tuning.now.slots look.now bytes (X.held receiver)
         (W.contents (inner_of writer.old)) (W.contents (inner_of writer.new)) result) }
-    ensures faults { Fails (input AtCycle (R.remaining (inner_of reader.old)) (faults_of reader.old) (faults_of reader.new)
-        ∷ output (faults_of writer.old) (faults_of writer.new) ∷ []) result }
+    ensures faults { Fails (read_from AtCycle R.remaining reader.old reader.new ∷ written_to writer.old writer.new ∷ []) result }
     ensures untouched { IsUntouched is_tool_write result writer.old writer.new }
 {
     let mut receiver = receiver;
@@ -102,8 +101,7 @@ pub fn run<R: Read, W: Write>(
     ensures bytes { IfSome (R.remaining (inner_of reader.old))
         (λ bytes. ShowsFile (tuned_to tuning.now) (held_by tuning.now) tuning.now.start tuning.now.slots look.now bytes blank_memory
         (W.contents (inner_of writer.old)) (W.contents (inner_of writer.new)) result) }
-    ensures faults { Fails (input AtCycle (R.remaining (inner_of reader.old)) (faults_of reader.old) (faults_of reader.new)
-        ∷ output (faults_of writer.old) (faults_of writer.new) ∷ []) result }
+    ensures faults { Fails (read_from AtCycle R.remaining reader.old reader.new ∷ written_to writer.old writer.new ∷ []) result }
     ensures untouched { IsUntouched is_tool_write result writer.old writer.new }
 {
     let (selection, lines, blank) = (tuning.selection, tuning.lines.count(), PageMemory::blank());

@@ -3,8 +3,8 @@
 ghost use Rattle.std.specs.Prelude.{◌∷◌, [], None, IfSome};
 ghost use Rattle.ttx_cycle.specs.Counters.{inner_of, faults_of};
 ghost use Rattle.ttx_files.specs.Answers.{IsUntouched};
-ghost use Rattle.ttx_files.specs.Devices.{AtService, input, output};
-ghost use Rattle.ttx_tool.specs.Devices.{is_tool_write, Fails};
+ghost use Rattle.ttx_files.specs.Devices.{AtService, input};
+ghost use Rattle.ttx_tool.specs.Devices.{is_tool_write, Fails, written_to};
 ghost use Rattle.ttx_tool.specs.Reports.{Reports};
 ghost use Rattle.ttx_tool.specs.Standing.{Stands};
 
@@ -35,7 +35,7 @@ pub fn read<R: Read>(
 /// Writes the lines about an author's text that has no service text: the status is 2. At a fault the first `written` bytes of them went out.
 pub fn refuse<W: Write>(writer: &mut Counted<W>, lines: &str) -> Result<u8, ToolFault>
     ensures bytes { Reports lines.now 2 (W.contents (inner_of writer.old)) (W.contents (inner_of writer.new)) result }
-    ensures faults { Fails (output (faults_of writer.old) (faults_of writer.new) ∷ []) result }
+    ensures faults { Fails (written_to writer.old writer.new ∷ []) result }
     ensures untouched { IsUntouched is_tool_write result writer.old writer.new }
 {
     write_text(writer, lines, 2)

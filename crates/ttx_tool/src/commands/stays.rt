@@ -1,9 +1,9 @@
 //! What is read of the text of a service with promises and stays.
 
 ghost use Rattle.std.specs.Prelude.{◌∷◌, [], IfSome};
-ghost use Rattle.ttx_cycle.specs.Counters.{inner_of, faults_of};
-ghost use Rattle.ttx_files.specs.Devices.{AtService, input};
-ghost use Rattle.ttx_tool.specs.Devices.{Reads};
+ghost use Rattle.ttx_cycle.specs.Counters.{inner_of};
+ghost use Rattle.ttx_files.specs.Devices.{AtService};
+ghost use Rattle.ttx_tool.specs.Devices.{Reads, read_from};
 ghost use Rattle.ttx_tool.specs.SpreadPlans.{DefinesStaying, ReadsStaying};
 
 use super::promised::{Promised, define};
@@ -42,7 +42,7 @@ pub(super) fn read_staying<R: Read>(
     reader: &mut Counted<R>,
 ) -> Result<Staying, ToolFault>
     ensures bytes { IfSome (R.remaining (inner_of reader.old)) (λ bytes. ReadsStaying bytes result) }
-    ensures faults { Reads (input AtService (R.remaining (inner_of reader.old)) (faults_of reader.old) (faults_of reader.new) ∷ []) result }
+    ensures faults { Reads (read_from AtService R.remaining reader.old reader.new ∷ []) result }
 {
     let text = match read_service_text(alloc, reader) {
         Ok(text) => text,

@@ -1,9 +1,8 @@
 //! `version`: which program this is.
 
 ghost use Rattle.std.specs.Prelude.{◌∷◌, []};
-ghost use Rattle.ttx_cycle.specs.Counters.{inner_of, faults_of};
-ghost use Rattle.ttx_files.specs.Devices.{output};
-ghost use Rattle.ttx_tool.specs.Devices.{Fails};
+ghost use Rattle.ttx_cycle.specs.Counters.{inner_of};
+ghost use Rattle.ttx_tool.specs.Devices.{Fails, written_to};
 ghost use Rattle.ttx_tool.specs.Version.{version_text, TellsVersion};
 
 use crate::faults::ToolFault;
@@ -17,7 +16,7 @@ pub(super) const VERSION: &str = "ttx 1.0.0\nkit rattle-kit-13f\nlogic dac8208d6
 /// Writes the version of the program, and the kit and the logic by which it is proved.
 pub fn run<W: Write>(writer: &mut Counted<W>) -> Result<(), ToolFault>
     ensures bytes { TellsVersion version_text (W.contents (inner_of writer.old)) (W.contents (inner_of writer.new)) result }
-    ensures faults { Fails (output (faults_of writer.old) (faults_of writer.new) ∷ []) result }
+    ensures faults { Fails (written_to writer.old writer.new ∷ []) result }
 {
     match write_line(writer, VERSION.as_bytes()) {
         Ok(()) => Ok(()),
