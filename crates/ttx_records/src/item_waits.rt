@@ -20,7 +20,7 @@ fn push_least(
     alloc: Global,
     text: &mut String,
     page: &str,
-    item: &str,
+    item: &'static str,
     fields: u32,
 ) -> Result<(), AllocError>
     ensures { OnOk result (string_bytes text.new ≡ string_bytes text.old ++ line (rule.item_members page.now item.now (fields_members fields))) }
@@ -41,7 +41,7 @@ fn push_unsure(
     alloc: Global,
     text: &mut String,
     page: &str,
-    item: &str,
+    item: &'static str,
     losses: Losses,
 ) -> Result<(), AllocError>
     ensures { OnOk result (string_bytes text.new ≡ string_bytes text.old
@@ -63,7 +63,7 @@ fn push_own(
     alloc: Global,
     text: &mut String,
     page: &str,
-    item: &str,
+    item: &'static str,
     wait: OwnWait,
 ) -> Result<(), AllocError>
     ensures { OnOk result (string_bytes text.new ≡ string_bytes text.old

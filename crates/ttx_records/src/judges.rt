@@ -37,7 +37,8 @@ pub struct Required(pub u32);
 /// Judges for viewers who key page numbers alone.
 pub struct ByNumber;
 
-fn text_of(
+/// The object of a verdict on so many pages.
+pub fn text_of(
     alloc: Global,
     certificate: &Certificate,
     pages: usize,

@@ -4,6 +4,7 @@
 mod all_pages;
 mod counters;
 mod files;
+mod item_reports;
 mod item_waits;
 mod judges;
 mod late_verdicts;
@@ -21,7 +22,8 @@ pub use files::{
     certify_files_all_json, certify_files_json, certify_files_late_json,
     certify_files_numbers_json, certify_files_required_json,
 };
+pub use item_reports::report_item_waits;
 pub use number_waits::report_number_waits;
 pub use passes::certify_passes_json;
-pub use wait_reports::{report_item_waits, report_waits};
+pub use wait_reports::report_waits;
 pub use waits::wait_records;

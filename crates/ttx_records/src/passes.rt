@@ -8,7 +8,7 @@ ghost use Rattle.ttx_files.specs.Answers.{IsUntouched, is_write};
 ghost use Rattle.ttx_files.specs.Devices.{AtCycle, AtService, AtCertificate, input, output, failed_at, IsRight, IsFirstFailure};
 ghost use Rattle.ttx_records.specs.Passes.{RecordsPasses, CertifiesPassesJson};
 
-use crate::verdicts::verdict_record;
+use crate::judges::text_of;
 use std::alloc::Global;
 use std::io::{Read, Write};
 use ttx_certify::{Verdict, Walk};
@@ -69,7 +69,7 @@ fn judge_passes<A: Read, B: Read, C: Read, D: Read>(
         Err(fault) => return Err(fault),
     };
     let pages = texts.service.pages().len();
-    match verdict_record(alloc, &texts.certificate, pages, verdict) {
+    match text_of(alloc, &texts.certificate, pages, &verdict) {
         Ok(line) => Ok(Told { verdict, line }),
         Err(_) => Err(FilesFault::NoMemory),
     }

@@ -2,11 +2,9 @@
 
 ghost use Rattle.std.specs.Prelude.{◌≡◌, ◌≤◌, IfOk, map, string_bytes};
 ghost use Rattle.ttx_cycle.specs.Cycles.{slots_of};
-ghost use Rattle.ttx_records.specs.ItemWaits.{IsItemWaitRecord};
 ghost use Rattle.ttx_records.specs.WaitReports.{absent_pages, IsWaitRecord};
 ghost use Rattle.ttx_source.specs.PromiseViews.{promise_view};
 
-use crate::item_waits::item_wait_records;
 use crate::waits::wait_records;
 use std::alloc::{AllocError, Global};
 use ttx_cycle::Cycle;
@@ -14,8 +12,8 @@ use ttx_header::PageId;
 use ttx_page::Class;
 use ttx_promise::{PromisedReport, other_pages, some_late, with_promises};
 use ttx_source::{Promise, Service};
-use ttx_wait::{Waiting, deadline_of, greatest};
-use ttx_witness::{NoMemory, bad_slot, item_waits, waits};
+use ttx_wait::{deadline_of, greatest};
+use ttx_witness::{NoMemory, bad_slot, waits};
 
 // The pages on the air that the service lacks, if it has promises.
 fn absent_pages(
@@ -64,28 +62,4 @@ pub fn report_waits(
         deadline: deadline_of(bad, &told),
         late: some_late(&all),
     })
-}
-
-/// The same without promises, with an object for each item of a page that is sent unchanged: how long a viewer waits for the item, as
-/// `report_items`. `repeat` is 1 to 8. `Err` if memory runs out.
-pub fn report_item_waits(
-    alloc: Global,
-    cycle: &Cycle,
-    service: &Service,
-    class: Class,
-    repeat: u8,
-) -> Result<Waiting, NoMemory>
-    requires some_repeats { 1 ≤ repeat }
-    requires few_repeats { repeat ≤ 8 }
-    ensures { IfOk result (λ waiting. IsItemWaitRecord (slots_of cycle.now) service.now class repeat (string_bytes waiting.text) waiting.deadline) }
-{
-    let (pages, lines) = (service.pages(), service.lines());
-    let told = waits(alloc, cycle, pages, class, repeat, lines)?;
-    let items = item_waits(alloc, cycle, pages, class, repeat, lines)?;
-    let bad = bad_slot(cycle);
-    let Ok(text) = item_wait_records(alloc, bad, &told, &items) else {
-        return Err(NoMemory);
-    };
-    let deadline = deadline_of(bad, &told);
-    Ok(Waiting { text, deadline })
 }

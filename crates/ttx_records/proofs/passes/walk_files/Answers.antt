@@ -5,7 +5,7 @@ use Rattle.ttx_source.specs.Services.{pages_of}
 use Rattle.ttx_certify.specs.Verdicts.{Means}
 use Rattle.ttx_certify.specs.Walking.{IsWalkVerdict, TookFirst, TookSecond, second_pages}
 use Rattle.ttx_certify.proofs.AuthoredIds.{distinct_ids}
-use Rattle.ttx_certify.proofs.TwoFiles.{twice_walked}
+use Rattle.ttx_records.proofs.TwoFiles.{twice_walked}
 use Rattle.ttx_records.proofs.passes.walk_files.Goals as goal
 
 pub new-requires : goal.new-requires
