@@ -15,9 +15,11 @@ import tempfile
 import cases
 
 # the commands with --json, each with the least number of cases that are compared
-COMMANDS = {"certify": 80, "wait": 15, "refute": 8, "pages": 6}
+COMMANDS = {"certify": 100, "check": 40, "monitor": 35, "wait": 20, "refute": 8, "pages": 6}
 # options that do not go with --json
-APART = {"certify": {b"--numbers", b"--twice"}, "wait": {b"--items", b"--numbers"}}
+APART = {"monitor": {b"--all", b"--every"}}
+# options whose plain lines have all that the objects have; they are left out with --json
+PLAIN = {"check": b"--long"}
 # what follows the item in the line of a reason
 PLACES = {9: "start", 10: "start", 12: "header"}
 
@@ -38,9 +40,11 @@ def reason_of(words):
     members = {"answer": "no", "number": number, "name": name}
     if number == 1:
         return members | {"slot": int(rest[0])}
+    if number == 15:
+        return members | {"page_number": rest[0], "slot": int(rest[1])}
     if rest:
         members["page"], rest = rest[0], rest[1:]
-    if number in (8, 9, 10, 12):
+    if number in (8, 9, 10, 12, 14):
         members["item"], rest = item_of(rest)
     if rest:
         members[PLACES.get(number, "slot")] = int(rest[0])
@@ -49,6 +53,8 @@ def reason_of(words):
 
 def certify_line(line):
     words = line.split()
+    if words[0] == "number":
+        return [{"page_number": words[1], "pages": int(words[3]), "every": int(words[5]), "stays": int(words[8])}]
     if words[0] == "yes":
         members, rest = numbers(words[1:9]), words[9:]
         members["class"] = "clearing" if rest[:2] == ["class", "clearing"] else "any"
@@ -71,9 +77,18 @@ def wait_line(line):
     absent = re.fullmatch(r"not in the service:((?: \S+)+)", line)
     if absent:
         return [{"page": page, "absent": True} for page in absent[1].split()]
+    number = re.fullmatch(r"(\S+) (\d+) subpages, (?:not all sent|each at least (\S+) s, again within (\S+) s)", line)
+    if number:
+        members = {"page_number": number[1], "subpages": int(number[2])}
+        return [members | ({"each": number[3], "again": number[4]} if number[3] else {"never": True})]
     late, kept = re.search(r" late: ([\d.]+) s$", line), re.search(r" of (\d+)$", line)
     words = line[:(late or kept).start()].split() if late or kept else line.split()
     members, rest = {"page": words[0]}, words[1:]
+    if rest[0] in ("head", "row", "links"):
+        members["item"], rest = item_of(rest)
+        if rest[0] == "never":
+            return [members | {"never": True} | numbers(rest[1:])]
+        return [members | {"fields": int(rest[0]), "seconds": rest[2]}]
     if rest[0] == "never":
         members["never"], rest = True, rest[1:]
         if rest and rest[0] in ("head", "row", "links"):
@@ -102,19 +117,70 @@ def pages_line(line):
     return [{"page": page, "sent": int(sent), "rows": int(rows), "links": bool(links)} | bits | {"head": head}]
 
 
-# the objects for a line of a command
-MODELS = {"certify": certify_line, "refute": refute_line, "wait": wait_line, "pages": pages_line}
+def line_by_line(model):
+    return lambda lines: [members for line in lines for members in model(line)]
+
+
+def check_lines(lines):
+    """The objects for a long report: three lines for each error, each warning and each second place, and one with the counts."""
+    told = []
+    for line in lines[:-1:3]:
+        file, row, column, severity, text = re.fullmatch(r"(.*?):(\d+):(\d+): (error|warning|note): (.*)", line).groups()
+        if severity == "note":
+            told[-1] |= {"note_line": int(row), "note_column": int(column)}
+        else:
+            told.append({"file": file, "line": int(row), "column": int(column), "severity": severity, "text": text})
+    good = re.fullmatch(r"ok pages (\d+)", lines[-1])
+    if good:
+        return told + [{"errors": 0, "warnings": 0, "pages": int(good[1])}]
+    errors, warnings, shown = re.fullmatch(r"(\d+) errors?, (\d+) warnings?(?:; the first (\d+) are shown)?", lines[-1]).groups()
+    return told + [{"errors": int(errors), "warnings": int(warnings)} | ({"shown": int(shown)} if shown else {})]
+
+
+def monitor_line(line):
+    words = line.split()
+    if words[0] == "yes":
+        return {"answer": "yes"} | numbers(words[1:])
+    if line == "no slots: no teletext":
+        return {"answer": "no", "how": "no teletext"}
+    form = re.fullmatch(r"no slots: packets of (\d+) bytes(?:; skip (\d+) at the start)?(; reverse the bits of each byte)?"
+                        r"(?:; drop the first (\d+) of each)?", line)
+    if form:
+        return {"answer": "no", "how": "packets", "bytes": int(form[1]), "skip": int(form[2] or 0), "reversed": bool(form[3]),
+                "drop": int(form[4] or 0)}
+    start = {"start": int(words[-1])}
+    if words[1] == "repeat":
+        item, rest = item_of(words[3:-2])
+        return {"answer": "no", "how": "repeat", "page": words[2], "item": item} | numbers(rest) | start
+    members = {"answer": "no", "slot": int(words[2]), "how": words[3]}
+    if words[3] == "byte":
+        members["byte"] = int(words[4])
+    elif words[3] == "shifted":
+        by = int(words[5])
+        members |= {"inserted": -by} if by < 0 else {"lost": by}
+    return members | start
+
+
+def monitor_lines(lines):
+    """The object of a verdict, with the bytes behind the last slot."""
+    return [monitor_line(lines[0]) | {"rest": int(line.split()[1]) for line in lines[1:]}] if lines else []
+
+
+# the objects for the lines of a command
+MODELS = {"certify": line_by_line(certify_line), "check": lambda lines: check_lines(lines) if lines else [], "monitor": monitor_lines,
+          "refute": line_by_line(refute_line), "wait": line_by_line(wait_line), "pages": line_by_line(pages_line)}
 
 
 def differences(program, command, case):
     """What is wrong with the JSON lines of a case."""
     with tempfile.TemporaryDirectory() as place:
         runs = []
-        for more in [], [b"--json"]:
-            folder = os.path.join(place, f"in{len(more)}")
+        bare = [word for word in cases.words_of(case) if word != PLAIN.get(command)]
+        for more in [PLAIN[command]] if command in PLAIN else [], [b"--json"]:
+            folder = os.path.join(place, f"in{len(runs)}")
             os.mkdir(folder)
             cases.lay_out(case, folder)
-            runs.append(cases.run(program, case, cases.words_of(case) + more, folder))
+            runs.append(cases.run(program, case, bare + more, folder))
     (status, plain), (json_status, written) = runs
     if status != json_status:
         return [f"status {json_status} with --json, {status} without"]
@@ -122,13 +188,12 @@ def differences(program, command, case):
     if plain["stderr"].split(b"\n\nUsage: ")[0] != written["stderr"].split(b"\n\nUsage: ")[0]:
         return [f"stderr {written['stderr']!r}"]
     try:
-        told = [json.loads(line) for line in written["stdout"].decode().splitlines()]
+        told = [json.loads(line) for line in written["stdout"].decode().split("\n")[:-1]]
     except ValueError as error:
         return [f"not JSON: {error}"]
     if not all(isinstance(one, dict) for one in told):
         return ["a line that is no object"]
-    lines = plain["stdout"].decode().splitlines()
-    wanted = [members for line in lines for members in MODELS[command](line)]
+    wanted = MODELS[command](plain["stdout"].decode(errors="replace").split("\n")[:-1])
     return [f"{one} for {other}" for one, other in zip(told, wanted) if one != other] + (
         [] if len(told) == len(wanted) else [f"{len(told)} objects, not {len(wanted)}"])
 

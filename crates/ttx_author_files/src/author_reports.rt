@@ -50,9 +50,10 @@ fn placed_mistakes(
     Ok(found)
 }
 
-// The report on an author's text: its mistakes, and after them its errors and warnings.
+/// All that is told of an author's text with this table, at its places: the mistakes for which it is not composed, and after them its
+/// errors and warnings. `Err` if memory runs out.
 #[tactic(auto, unfolding(crate::specs::AuthorNotes::author_placed))]
-fn told_of(alloc: Global, text: &str, author: &Table) -> Result<Vec<Placed>, AllocError>
+pub fn told_of_author(alloc: Global, text: &str, author: &Table) -> Result<Vec<Placed>, AllocError>
     ensures { IfOk result (λ found. (told : List lines.Placed) × rule.ArePlaced text.now (table_view author.now) (mistakes (table_view author.now)) told
         × (placed_views found.items ≡ told ++ author_placed text.now (table_view author.now))) }
 {
@@ -72,7 +73,7 @@ fn author_report(
 ) -> Result<LongReport, AllocError>
     ensures { IfOk result (λ report. rule.IsReportOn style.entry text.now (table_view author.now) report.text.items report.status) }
 {
-    let found = told_of(alloc, text, author)?;
+    let found = told_of_author(alloc, text, author)?;
     let paper = Paper {
         file: style.file,
         bytes: text.as_bytes(),

@@ -8,6 +8,7 @@ mod checking;
 mod composing;
 mod decomposing;
 
+pub use author_reports::told_of_author;
 pub use author_texts::{Standing, is_author_text, read_standing};
 pub use checking::check_file;
 pub use composing::compose_file;

@@ -1,2 +1,3 @@
 mod AbsentPages
 mod SixMembers
+mod TwoFiles

@@ -3,7 +3,8 @@
 --   IsRecorded, IsAllRecorded       for receivers that show pages at once; with the first reason of each page
 --   IsLateRecorded          for those that show pages late
 --   IsRequiredRecorded      with a deadline that is required
---   CertifiesJson, CertifiesAllJson, CertifiesLateJson, CertifiesRequiredJson       what has been written, for each answer
+--   IsNumbersRecorded       for viewers who key page numbers alone
+--   CertifiesJson, CertifiesAllJson, CertifiesLateJson, CertifiesRequiredJson, CertifiesNumbersJson     what has been written, for each answer
 use Rattle.std.specs.Prelude.{◌≡◌, ℕ, List, length, Option, Result}
 use Rattle.ttx_files.specs.Judging as files
 use Rattle.ttx_files.specs.declared.faults.FilesFault.{FilesFault}
@@ -17,6 +18,12 @@ use Rattle.ttx_late.specs.LateVerdicts.{IsLateVerdict, MeansLate}
 use Rattle.ttx_late.specs.declared.verdict.LateVerdict.{LateVerdict}
 use Rattle.ttx_deadline.specs.Requirements.{IsRequiredVerdict, MeansRequired}
 use Rattle.ttx_deadline.specs.declared.requirements.RequiredVerdict.{RequiredVerdict}
+use Rattle.ttx_page.specs.Streams.{repeated}
+use Rattle.ttx_subpages.specs.NumberReports.{AreReports}
+use Rattle.ttx_subpages.specs.NumbersVerdicts.{IsNumbersVerdict, MeansNumbers}
+use Rattle.ttx_subpages.specs.declared.reports.NumberReport.{NumberReport}
+use Rattle.ttx_subpages.specs.declared.verdict.NumbersVerdict.{NumbersVerdict}
+use Rattle.ttx_records.specs.NumberRecords.{numbers_record}
 use Rattle.ttx_records.specs.Verdicts.{verdict_record, all_records}
 use Rattle.ttx_records.specs.LateVerdicts.{late_record}
 use Rattle.ttx_records.specs.Requirements.{required_record}
@@ -45,6 +52,14 @@ pub record IsRequiredRecorded (slots : List (List ℕ)) (service : ServiceFields
   pub means : MeansRequired slots service w required verdict
   pub text_is : text ≡ required_record w (length service.pages) verdict
 
+pub record IsNumbersRecorded (slots : List (List ℕ)) (service : ServiceFields) (w : CertificateFields) (verdict : NumbersVerdict) (text : List ℕ)
+    : Type 0 where
+  pub exact : IsNumbersVerdict slots (pages_of service) (certificate_at w) verdict
+  pub seen : MeansNumbers slots (pages_of service) (certificate_at w) verdict
+  pub reports : List NumberReport
+  pub are : AreReports (repeated slots) (pages_of service) reports
+  pub text_is : text ≡ numbers_record w (length service.pages) reports verdict
+
 abbrev pub CertifiesJson : List ℕ → List ℕ → List ℕ → Option (List ℕ) → Option (List ℕ) → Result Verdict FilesFault → Type 0
 CertifiesJson = files.AnswersFiles IsRecorded
 
@@ -56,3 +71,6 @@ CertifiesLateJson = files.AnswersFiles IsLateRecorded
 
 abbrev pub CertifiesRequiredJson : List ℕ → List ℕ → List ℕ → Option ℕ → Option (List ℕ) → Option (List ℕ) → Result RequiredVerdict FilesFault → Type 0
 CertifiesRequiredJson a b c required = files.AnswersFiles (λ slots service w. IsRequiredRecorded slots service w required) a b c
+
+abbrev pub CertifiesNumbersJson : List ℕ → List ℕ → List ℕ → Option (List ℕ) → Option (List ℕ) → Result NumbersVerdict FilesFault → Type 0
+CertifiesNumbersJson = files.AnswersFiles IsNumbersRecorded

@@ -6,3 +6,7 @@ pub mod Counters
 pub mod Judging
 pub mod Waits
 pub mod WaitReports
+pub mod NumberRecords
+pub mod NumberWaits
+pub mod ItemWaits
+pub mod Passes

@@ -1,14 +1,16 @@
 //! Judges whose verdicts are JSON objects.
 
-ghost use Rattle.std.specs.Prelude.{◌≡◌, IfOk, Some, string_bytes};
+ghost use Rattle.std.specs.Prelude.{◌≡◌, IfOk, Some, length, string_bytes};
 ghost use Rattle.ttx_certificate.specs.Certificates.{fields_of};
-ghost use Rattle.ttx_records.specs.Judging.{IsRecorded, IsAllRecorded, IsLateRecorded, IsRequiredRecorded};
+ghost use Rattle.ttx_records.specs.Judging.{IsRecorded, IsAllRecorded, IsLateRecorded, IsRequiredRecorded, IsNumbersRecorded};
+ghost use Rattle.ttx_records.specs.NumberRecords as numbers;
 ghost use Rattle.ttx_records.specs.Verdicts as verdicts;
 ghost use Rattle.ttx_records.specs.LateVerdicts as shown_late;
 ghost use Rattle.ttx_records.specs.Requirements as requirements;
 
 use crate::all_pages::all_records;
 use crate::late_verdicts::late_record;
+use crate::numbers::numbers_record;
 use crate::requirements::required_record;
 use crate::verdicts::verdict_record;
 use std::alloc::Global;
@@ -16,6 +18,7 @@ use ttx_certify::{AllReasons, Verdict, certify_all_of_service, certify_service};
 use ttx_deadline::{RequiredVerdict, certify_required};
 use ttx_files::{Inputs, Judge, Told};
 use ttx_late::{LateVerdict, certify_late};
+use ttx_subpages::{NumberReport, NumbersVerdict, certify_numbers, number_reports};
 use ttx_witness::{Certificate, NoMemory};
 
 /// Judges for receivers that show pages at once.
@@ -31,7 +34,11 @@ pub struct Late;
 #[derive(Drop)]
 pub struct Required(pub u32);
 
-fn text_of(
+/// Judges for viewers who key page numbers alone.
+pub struct ByNumber;
+
+/// The object of a verdict on so many pages.
+pub fn text_of(
     alloc: Global,
     certificate: &Certificate,
     pages: usize,
@@ -81,6 +88,22 @@ fn required_text_of(
     ensures { IfOk result (λ text. string_bytes text ≡ requirements.required_record (fields_of certificate.now) pages verdict.now) }
 {
     match required_record(alloc, certificate, pages, *verdict) {
+        Ok(text) => Ok(text),
+        Err(_) => Err(NoMemory),
+    }
+}
+
+fn numbers_text_of(
+    alloc: Global,
+    inputs: &Inputs,
+    reports: &[NumberReport],
+    verdict: &NumbersVerdict,
+) -> Result<String, NoMemory>
+    ensures { IfOk result (λ text. string_bytes text
+        ≡ numbers.numbers_record (fields_of inputs.now.certificate) (length inputs.now.service.pages) reports.now verdict.now) }
+{
+    let pages = inputs.service.pages().len();
+    match numbers_record(alloc, &inputs.certificate, pages, reports, *verdict) {
         Ok(text) => Ok(text),
         Err(_) => Err(NoMemory),
     }
@@ -155,5 +178,19 @@ impl Judge for Required {
             Ok(line) => Ok(Told { verdict, line }),
             Err(_) => Err(NoMemory),
         }
+    }
+}
+
+impl Judge for ByNumber {
+    type Verdict = NumbersVerdict;
+
+    ghost says = { λ j. IsNumbersRecorded };
+
+    fn judge(&self, alloc: Global, inputs: &Inputs) -> Result<Told<NumbersVerdict>, NoMemory> {
+        let (cycle, service) = (&inputs.cycle, &inputs.service);
+        let verdict = certify_numbers(alloc, cycle, service, &inputs.certificate)?;
+        let reports = number_reports(alloc, cycle, service.pages())?;
+        let line = numbers_text_of(alloc, inputs, reports.as_slice(), &verdict)?;
+        Ok(Told { verdict, line })
     }
 }

@@ -45,8 +45,8 @@ fn push_beside(
     }
 }
 
-// A number of fields in seconds.
-fn seconds_of(alloc: Global, fields: u32) -> Result<String, AllocError>
+/// A number of fields in seconds.
+pub fn seconds_of(alloc: Global, fields: u32) -> Result<String, AllocError>
     ensures { IfOk result (λ text. string_bytes text ≡ seconds_text (2 * fields)) }
 {
     let mut text = String::new(alloc);
@@ -257,8 +257,8 @@ fn promise_beside(one: &PromisedWait) -> Option<Beside>
     }
 }
 
-// Adds a page.
-fn push_page(alloc: Global, text: &mut String, one: PromisedWait) -> Result<(), AllocError>
+/// Adds a page.
+pub fn push_page(alloc: Global, text: &mut String, one: PromisedWait) -> Result<(), AllocError>
     ensures { OnOk result (string_bytes text.new ≡ string_bytes text.old ++ rule.page_record one) }
 {
     let beside = promise_beside(&one);
@@ -291,8 +291,8 @@ fn push_deadline(alloc: Global, text: &mut String, fields: u32) -> Result<(), Al
     push_object(alloc, text, &members)
 }
 
-// Adds the object of all pages together.
-fn push_all(
+/// Adds the object of all pages together.
+pub fn push_all(
     alloc: Global,
     text: &mut String,
     bad: Option<u32>,

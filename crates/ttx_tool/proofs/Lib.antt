@@ -16,6 +16,7 @@ mod ServiceIds
 mod ReplayInputs
 mod ReportInputs
 mod MonitoredFeeds
+mod MonitoredJson
 mod ShownFile
 mod CertificateLengths
 mod NamedSlots

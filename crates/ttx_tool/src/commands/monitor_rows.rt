@@ -15,8 +15,8 @@ use ttx_cycle::Counted;
 use ttx_files::{FeedFault, FilesFault, Inputs, Told};
 use ttx_row_monitor::{RowVerdict, monitor_rows};
 
-// 0 for a yes, 1 for a no.
-fn row_status(verdict: RowVerdict) -> u8
+/// 0 for a yes, 1 for a no.
+pub(super) fn row_status(verdict: RowVerdict) -> u8
     ensures { result ≡ row_status verdict }
 {
     match verdict {

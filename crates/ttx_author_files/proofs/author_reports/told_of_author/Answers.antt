@@ -4,7 +4,7 @@ use Rattle.ttx_desk.specs.Services.{mistakes}
 use Rattle.ttx_mistakes.specs.PlacedViews.{placed_views}
 use Rattle.ttx_author_files.specs.AuthorNotes.{placed_in, author_placed}
 use Rattle.ttx_author_files.specs.AuthorReports.{ArePlaced}
-use Rattle.ttx_author_files.proofs.author_reports.told_of.Goals as goal
+use Rattle.ttx_author_files.proofs.author_reports.told_of_author.Goals as goal
 
 pub returns : goal.returns
 unfolding author_placed

@@ -1,0 +1,2 @@
+pub mod FeedRecords
+pub mod RowRecords

@@ -1,0 +1,4 @@
+pub mod Records
+pub mod ServiceRecords
+pub mod AuthorRecords
+pub mod Checking

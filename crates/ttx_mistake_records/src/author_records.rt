@@ -1,0 +1,47 @@
+//! The objects of an author's text.
+
+ghost use Rattle.std.specs.Prelude.{IfOk, string_bytes};
+ghost use Rattle.toml.specs.View.{table_view};
+ghost use Rattle.ttx_mistake_records.specs.AuthorRecords.{IsRecordFor, IsAuthorRecord};
+
+use crate::records::{Paper, Record, record_of};
+use std::alloc::{AllocError, Global};
+use toml::Table;
+use ttx_author_files::told_of_author;
+use ttx_mistakes::pages_in;
+
+// The objects of an author's text with this table, and the status.
+fn record_for(
+    alloc: Global,
+    file: &str,
+    text: &str,
+    strict: bool,
+    author: &Table,
+) -> Result<Record, AllocError>
+    ensures { IfOk result (λ r. IsRecordFor file.now text.now strict (table_view author.now) (string_bytes r.text) r.status) }
+{
+    let found = told_of_author(alloc, text, author)?;
+    let paper = Paper {
+        file,
+        bytes: text.as_bytes(),
+    };
+    record_of(alloc, paper, strict, pages_in(author), found.as_slice())
+}
+
+/// The objects of an author's text, which is TOML, and the status; of another text, `Err`.
+pub fn author_record(
+    alloc: Global,
+    file: &str,
+    bytes: &[u8],
+    strict: bool,
+) -> Result<Record, AllocError>
+    ensures { IfOk result (λ r. IsAuthorRecord file.now bytes.now strict (string_bytes r.text) r.status) }
+{
+    let Ok(text) = std::str::from_utf8(bytes) else {
+        return Err(AllocError);
+    };
+    let Ok(author) = toml::table_from_str(alloc, text) else {
+        return Err(AllocError);
+    };
+    record_for(alloc, file, text, strict, &author)
+}

@@ -1,0 +1,167 @@
+//! The objects of the text of a service.
+
+ghost use Rattle.std.specs.Prelude.{◌≡◌, ◌++◌, IfOk, OnOk, codes, map, string_bytes};
+ghost use Rattle.toml.specs.View.{table_view};
+ghost use Rattle.ttx_mistakes.specs.LongLines.{placed};
+ghost use Rattle.ttx_mistakes.specs.LongReports as report;
+ghost use Rattle.ttx_mistakes.specs.PlacedViews.{placed_views};
+ghost use Rattle.ttx_mistake_records.specs.Records as rule;
+ghost use Rattle.ttx_mistake_records.specs.ServiceRecords as service;
+
+use crate::records::{Paper, Record, Said, push_again, push_counts, push_said, record_of};
+use std::alloc::{AllocError, Global};
+use toml::Table;
+use ttx_mistakes::first_keys::first_place;
+use ttx_mistakes::{Placed, notes_of, pages_in, push_notes};
+
+// The errors and warnings about a text with this table, at their places.
+fn placed_notes(alloc: Global, text: &str, table: &Table) -> Result<Vec<Placed>, AllocError>
+    ensures { IfOk result (λ found. placed_views found.items ≡ map (placed text.now) (report.notes_of (table_view table.now))) }
+{
+    let notes = notes_of(alloc, table)?;
+    let mut found = Vec::new(alloc);
+    push_notes(alloc, &mut found, text, &notes)?;
+    Ok(found)
+}
+
+// The objects of a text with this table.
+fn table_record(
+    alloc: Global,
+    file: &str,
+    text: &str,
+    strict: bool,
+    table: &Table,
+) -> Result<Record, AllocError>
+    ensures { IfOk result (λ r. service.IsTableRecord file.now text.now strict (table_view table.now) (string_bytes r.text) r.status) }
+{
+    let found = placed_notes(alloc, text, table)?;
+    let paper = Paper {
+        file,
+        bytes: text.as_bytes(),
+    };
+    record_of(alloc, paper, strict, pages_in(table), &found)
+}
+
+// The words about a text that is not a TOML document.
+fn toml_words(alloc: Global, message: &str) -> Result<String, AllocError>
+    ensures { IfOk result (λ words. string_bytes words ≡ codes "this isn't TOML: " ++ message.now) }
+{
+    let mut words = String::from_str(alloc, "this isn't TOML: ")?;
+    words.push_str(message)?;
+    Ok(words)
+}
+
+// The place where the key at a place of a text is first given.
+fn first_in(alloc: Global, bytes: &[u8], place: usize) -> Result<Option<usize>, AllocError>
+    ensures { IfOk result (λ first. first ≡ report.first_in bytes.now place) }
+{
+    match std::str::from_utf8(bytes) {
+        Ok(text) => first_place(alloc, text, place),
+        Err(_) => Ok(None),
+    }
+}
+
+// The same, if the words of the TOML reader say that the key is given twice.
+fn given_first(
+    alloc: Global,
+    bytes: &[u8],
+    place: usize,
+    words: &str,
+) -> Result<Option<usize>, AllocError>
+    ensures { IfOk result (λ first. first ≡ report.given_first bytes.now place words.now) }
+{
+    if words == "duplicate key" {
+        first_in(alloc, bytes, place)
+    } else {
+        Ok(None)
+    }
+}
+
+// Adds the object of an error, with the place where a key is first given, if there is one.
+fn push_error(
+    alloc: Global,
+    text: &mut String,
+    paper: Paper<'_>,
+    said: Said<'_>,
+    first: Option<usize>,
+) -> Result<(), AllocError>
+    ensures { OnOk result (string_bytes text.new ≡ string_bytes text.old
+        ++ rule.line (rule.place_members paper.entry.file.now paper.entry.bytes.now said.entry.place said.entry.error said.entry.words.now
+        ++ rule.note_members paper.entry.bytes.now first)) }
+{
+    match first {
+        None => push_said(alloc, text, paper, said),
+        Some(place) => push_again(alloc, text, paper, said, place),
+    }
+}
+
+// The objects of an error and of the counts.
+fn error_records(
+    alloc: Global,
+    paper: Paper<'_>,
+    said: Said<'_>,
+    first: Option<usize>,
+) -> Result<String, AllocError>
+    ensures { IfOk result (λ text. string_bytes text
+        ≡ rule.line (rule.place_members paper.entry.file.now paper.entry.bytes.now said.entry.place said.entry.error said.entry.words.now
+        ++ rule.note_members paper.entry.bytes.now first) ++ rule.line service.one_error) }
+{
+    let mut text = String::new(alloc);
+    push_error(alloc, &mut text, paper, said, first)?;
+    push_counts(alloc, &mut text, 1, 0)?;
+    Ok(text)
+}
+
+// The objects of a text that is not a TOML document, with the place and the words of the TOML reader.
+fn toml_records(
+    alloc: Global,
+    paper: Paper<'_>,
+    place: usize,
+    message: &str,
+) -> Result<String, AllocError>
+    ensures { IfOk result (λ text. string_bytes text
+        ≡ rule.line (service.toml_members paper.entry.file.now paper.entry.bytes.now place message.now) ++ rule.line service.one_error) }
+{
+    let words = toml_words(alloc, message)?;
+    let first = given_first(alloc, paper.bytes, place, message)?;
+    let said = Said {
+        place,
+        error: true,
+        words: words.as_str(),
+    };
+    error_records(alloc, paper, said, first)
+}
+
+// The objects of a text that is not a TOML document, and the status.
+fn toml_record(alloc: Global, file: &str, bytes: &[u8]) -> Result<Record, AllocError>
+    ensures { IfOk result (λ r. service.IsTomlRecord file.now bytes.now (string_bytes r.text) × (r.status ≡ 2)) }
+{
+    let Err(error) = toml::table_from_slice(alloc, bytes) else {
+        return Err(AllocError);
+    };
+    let Some(span) = error.span() else {
+        return Err(AllocError);
+    };
+    let paper = Paper { file, bytes };
+    let text = toml_records(alloc, paper, span.start, error.message())?;
+    Ok(Record { text, status: 2 })
+}
+
+/// The objects of the text of a service, and the status. With `strict` a warning makes it 1. `Err` if memory runs out.
+pub fn service_record(
+    alloc: Global,
+    file: &str,
+    bytes: &[u8],
+    strict: bool,
+) -> Result<Record, AllocError>
+    ensures { IfOk result (λ r. service.IsServiceRecord file.now bytes.now strict (string_bytes r.text) r.status) }
+{
+    let Ok(text) = std::str::from_utf8(bytes) else {
+        return toml_record(alloc, file, bytes);
+    };
+    match toml::table_from_str(alloc, text) {
+        Ok(table) => table_record(alloc, file, text, strict, &table),
+        Err(error) if error.is_memory() => Err(AllocError),
+        Err(_) => toml_record(alloc, file, bytes),
+    }
+}

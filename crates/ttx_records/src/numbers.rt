@@ -1,0 +1,165 @@
+//! Verdicts of `certify --numbers`.
+
+ghost use Rattle.std.specs.Prelude.{◌≡◌, ◌+◌, ◌++◌, IfOk, OnOk, string_bytes};
+ghost use Rattle.ttx_certificate.specs.Certificates.{certificate_of, fields_of};
+ghost use Rattle.ttx_certificate.specs.NamedStarts.{limit};
+ghost use Rattle.ttx_numbers.specs.Numbers.{number_text};
+ghost use Rattle.ttx_records.specs.LateVerdicts.{late_members};
+ghost use Rattle.ttx_records.specs.Names.{line};
+ghost use Rattle.ttx_records.specs.NumberRecords as rule;
+
+use crate::late_verdicts::push_late_verdict;
+use crate::names::{id_text, item_name};
+use std::alloc::{AllocError, Global};
+use ttx_header::PageId;
+use ttx_json::{count, push_object, word};
+use ttx_late::LateVerdict;
+use ttx_numbers::push_number;
+use ttx_page::Item;
+use ttx_subpages::{Lack, NumberReport, NumbersVerdict};
+use ttx_witness::Certificate;
+
+/// The number of a page, as in `100`.
+pub fn number_text(alloc: Global, page: PageId) -> Result<String, AllocError>
+    ensures { IfOk result (λ text. string_bytes text ≡ number_text page) }
+{
+    let mut text = String::new(alloc);
+    push_number(&mut text, page)?;
+    Ok(text)
+}
+
+// Adds a number whose subpages come again within so many slots.
+#[tactic(auto, unfolding(crate::specs::Names::line, crate::specs::NumberRecords::number_record))]
+fn push_one(
+    alloc: Global,
+    text: &mut String,
+    every: u64,
+    report: NumberReport,
+) -> Result<(), AllocError>
+    ensures { OnOk result (string_bytes text.new ≡ string_bytes text.old ++ rule.number_record every report) }
+{
+    let number = number_text(alloc, report.first)?;
+    let members = [
+        word("page_number", number.as_str()),
+        count("pages", report.pages as u64),
+        count("every", every),
+        count("stays", report.stay as u64),
+    ];
+    push_object(alloc, text, &members)
+}
+
+// Adds each number.
+fn push_numbers(
+    alloc: Global,
+    text: &mut String,
+    every: u64,
+    reports: &[NumberReport],
+) -> Result<(), AllocError>
+    ensures { OnOk result (string_bytes text.new ≡ string_bytes text.old ++ rule.number_records every reports.now) }
+{
+    for report in reports {
+        push_one(alloc, text, every, *report)?;
+    }
+    Ok(())
+}
+
+// The deadline and the gap, in slots.
+fn within(certificate: &Certificate, gap: usize) -> u64
+    ensures { result ≡ rule.at_most (limit (certificate_of certificate.now) + gap) }
+{
+    let slots =
+        u128::from(certificate.deadline()) * u128::from(certificate.lines()) + gap as u128;
+    slots.min(u128::from(u64::MAX)) as u64
+}
+
+// Adds a yes, and each number.
+fn push_yes(
+    alloc: Global,
+    text: &mut String,
+    certificate: &Certificate,
+    pages: usize,
+    gap: usize,
+) -> Result<(), AllocError>
+    ensures { OnOk result (string_bytes text.new ≡ string_bytes text.old ++ line (late_members (fields_of certificate.now) pages gap)) }
+{
+    push_late_verdict(alloc, text, certificate, pages, LateVerdict::Yes { gap })
+}
+
+// Adds a rejection for a block that is not whole.
+#[tactic(auto, unfolding(crate::specs::Names::line))]
+fn push_unwhole(
+    alloc: Global,
+    text: &mut String,
+    page: PageId,
+    item: Item,
+    slot: usize,
+) -> Result<(), AllocError>
+    ensures { OnOk result (string_bytes text.new ≡ string_bytes text.old ++ line (rule.unwhole page item slot)) }
+{
+    let page = id_text(alloc, page)?;
+    let item = item_name(item);
+    let members = [
+        word("answer", "no"),
+        count("number", 14),
+        word("name", "unwhole"),
+        word("page", page.as_str()),
+        word("item", item),
+        count("slot", slot as u64),
+    ];
+    push_object(alloc, text, &members)
+}
+
+// Adds a rejection for a header that is of no page.
+#[tactic(auto, unfolding(crate::specs::Names::line))]
+fn push_unlisted(
+    alloc: Global,
+    text: &mut String,
+    page: PageId,
+    slot: usize,
+) -> Result<(), AllocError>
+    ensures { OnOk result (string_bytes text.new ≡ string_bytes text.old ++ line (rule.unlisted page slot)) }
+{
+    let number = number_text(alloc, page)?;
+    let members = [
+        word("answer", "no"),
+        count("number", 15),
+        word("name", "unlisted"),
+        word("page_number", number.as_str()),
+        count("slot", slot as u64),
+    ];
+    push_object(alloc, text, &members)
+}
+
+// Adds a rejection for what is not sent whole.
+fn push_lack(alloc: Global, text: &mut String, lack: Lack) -> Result<(), AllocError>
+    ensures { OnOk result (string_bytes text.new ≡ string_bytes text.old ++ line (rule.lack_members lack)) }
+{
+    match lack {
+        Lack::Unwhole { page, item, slot } => push_unwhole(alloc, text, page, item, slot),
+        Lack::Unlisted { page, slot } => push_unlisted(alloc, text, page, slot),
+    }
+}
+
+/// The object of a verdict on so many pages, and one for each number in `reports` behind a yes.
+pub fn numbers_record(
+    alloc: Global,
+    certificate: &Certificate,
+    pages: usize,
+    reports: &[NumberReport],
+    verdict: NumbersVerdict,
+) -> Result<String, AllocError>
+    ensures { IfOk result (λ text. string_bytes text ≡ rule.numbers_record (fields_of certificate.now) pages reports.now verdict) }
+{
+    let mut text = String::new(alloc);
+    match verdict {
+        NumbersVerdict::Yes { gap } => {
+            push_yes(alloc, &mut text, certificate, pages, gap)?;
+            push_numbers(alloc, &mut text, within(certificate, gap), reports)?;
+        }
+        NumbersVerdict::No(verdict) => {
+            push_late_verdict(alloc, &mut text, certificate, pages, verdict)?;
+        }
+        NumbersVerdict::Lacking(lack) => push_lack(alloc, &mut text, lack)?,
+    }
+    Ok(text)
+}
