@@ -16,7 +16,6 @@ mod ServiceIds
 mod ReplayInputs
 mod ReportInputs
 mod MonitoredFeeds
-mod MonitoredJson
 mod ShownFile
 mod CertificateLengths
 mod NamedSlots

@@ -1,5 +1,5 @@
 -- What is told of a feed once the three files are read.
-use Rattle.std.proofs.Common.{◌≡◌, ◌⊎◌, ℕ, zero, suc, ◌-◌, ◌^◌, ◌<◌, ◌≤◌, Bool, true, false, List, length, Option, Some, None, Result, Ok, Err, ◌++◌, append_assoc, sym, subst, inl, inr, arith}
+use Rattle.std.proofs.Common.{◌≡◌, ◌∙◌, refl, [], ◌⊎◌, ℕ, zero, suc, ◌-◌, ◌^◌, ◌<◌, ◌≤◌, Bool, true, false, List, length, Option, Some, None, Result, Ok, Err, ◌++◌, append_assoc, sym, subst, inl, inr, arith}
 use Rattle.std.specs.Prelude.{IfSome}
 use Rattle.std.specs.Io.KnownBytes.{Appends}
 use Rattle.ttx_cycle.specs.Cycles.{slots_of}
@@ -11,26 +11,28 @@ use Rattle.ttx_files.specs.Texts.{IsServiceText, IsCertificateText}
 use Rattle.ttx_files.specs.declared.faults.FilesFault.TheVariants.{Cycle, Service, Certificate, Read, TooLong, Write, NoMemory}
 use Rattle.ttx_files.specs.declared.readers.Inputs.{Inputs}
 use Rattle.ttx_files.specs.declared.told.Told.{Told}
+use Rattle.ttx_page.specs.Pages.{Page}
 use Rattle.ttx_source.specs.Services.{ServiceFields, pages_of}
 use Rattle.ttx_witness.specs.Certificates.{certificate_of}
-use Rattle.ttx_monitor.specs.FeedLines.{yes_text, rest_text, IsFeedTold}
+use Rattle.ttx_monitor.specs.FeedLines.{yes_text, rest_text}
+use Rattle.ttx_monitor.specs.FeedVerdicts.{IsFeedVerdict}
 use Rattle.ttx_monitor.specs.FeedReports.{telling_for, ReportsFeed}
 use Rattle.ttx_monitor.specs.Summaries.{sum_text}
 use Rattle.ttx_monitor.specs.declared.verdict.FeedVerdict.{FeedVerdict}
 use Rattle.ttx_monitor.specs.declared.verdict.FeedVerdict.TheVariants.{Unlike, Yes, No, Shifted}
-use Rattle.ttx_row_monitor.specs.RowLines.{IsRowTold}
+use Rattle.ttx_row_monitor.specs.RowVerdicts.{IsRowVerdict}
 use Rattle.ttx_row_monitor.specs.declared.verdict.RowVerdict.{RowVerdict}
 use Rattle.ttx_row_monitor.specs.declared.verdict.RowVerdict.TheVariants as row
 use Rattle.ttx_monitor.specs.declared.asked.Asked.{Asked}
 use Rattle.ttx_tool.specs.MonitorReports.{report_status, IsReportedAs, MonitorsLines, MeansReported}
-use Rattle.ttx_tool.specs.Monitor.{feed_status, row_status, IsTelling, TellsFeed, IsFaultOfFeed, MonitorsText, Monitors, MeansReceived}
+use Rattle.ttx_tool.specs.Monitor.{feed_status, row_status, feed_said, row_said, IsTelling, TellsFeed, IsFaultOfFeed, MonitorsText, Monitors, MeansReceived}
 use Rattle.ttx_tool.specs.declared.faults.ToolFault.{ToolFault}
 use Rattle.ttx_tool.specs.declared.faults.ToolFault.TheVariants.{Files, Plan, Class, Same, Counter, Feed}
 
-module _ (inputs : Inputs) (by_rows : Bool) (named : Option ℕ) where
+module _ (inputs : Inputs) (json by_rows : Bool) (named : Option ℕ) where
   told_of : (a b c d : List ℕ) (result : Result (Told ℕ) ToolFault) → ReadsInputs a b c (Ok inputs) →
-      TellsFeed (IsTelling by_rows (slots_of inputs.cycle) inputs.service (fields_of inputs.certificate) named d) result → IsFaultOfFeed result →
-      MonitorsText by_rows a b c named d result
+      TellsFeed (IsTelling json by_rows (slots_of inputs.cycle) inputs.service (fields_of inputs.certificate) named d) result → IsFaultOfFeed result →
+      MonitorsText json by_rows a b c named d result
   told_of a b c d (Ok told) read is own = record {
     slots = slots_of inputs.cycle;
     service = inputs.service;
@@ -55,8 +57,8 @@ module _ (inputs : Inputs) (by_rows : Bool) (named : Option ℕ) where
 
   pub monitored_of : (result : Result (Told ℕ) ToolFault) (a b c d : Option (List ℕ)) →
       IfSome a (λ x. IfSome b (λ y. IfSome c (λ z. ReadsInputs x y z (Ok inputs)))) →
-      IfSome d (λ u. TellsFeed (IsTelling by_rows (slots_of inputs.cycle) inputs.service (fields_of inputs.certificate) named u) result) → IsFaultOfFeed result →
-      IfSome a (λ x. IfSome b (λ y. IfSome c (λ z. IfSome d (λ u. MonitorsText by_rows x y z named u result))))
+      IfSome d (λ u. TellsFeed (IsTelling json by_rows (slots_of inputs.cycle) inputs.service (fields_of inputs.certificate) named u) result) → IsFaultOfFeed result →
+      IfSome a (λ x. IfSome b (λ y. IfSome c (λ z. IfSome d (λ u. MonitorsText json by_rows x y z named u result))))
   monitored_of result (Some a) (Some b) (Some c) (Some d) read is own = told_of a b c d result read is own
   monitored_of result (Some a) (Some b) (Some c) None read is own = tt
   monitored_of result (Some a) (Some b) None d read is own = tt
@@ -68,23 +70,34 @@ ended_so : (rest : ℕ) (tail : List ℕ) (feed : List (List ℕ)) → ((rest < 
 ended_so rest tail feed (inl e) = inl (let few = e.0 in let is = e.1 in omega arith)
 ended_so rest tail feed (inr long) = inr long
 
+-- the words of a yes are those for no pages
+feed_yes : (json : Bool) (pages : List Page) (start slots wrong streak rest : ℕ) →
+    feed_said json pages (Yes start slots wrong streak rest) ≡ feed_said json [] (Yes start slots wrong streak rest)
+feed_yes false pages start slots wrong streak rest = refl
+feed_yes true pages start slots wrong streak rest = refl
+
+row_yes : (json : Bool) (pages : List Page) (start slots lost rest : ℕ) →
+    row_said json pages (row.Yes start slots lost rest) ≡ row_said json [] (row.Yes start slots lost rest)
+row_yes false pages start slots lost rest = refl
+row_yes true pages start slots lost rest = refl
+
 -- a yes is one of a verdict
-module _ (a b c : List ℕ) (named : Option ℕ) (d : List ℕ) (old new : Option (List ℕ)) (slots : List (List ℕ)) (service : ServiceFields)
+module _ (json : Bool) (a b c : List ℕ) (named : Option ℕ) (d : List ℕ) (old new : Option (List ℕ)) (slots : List (List ℕ)) (service : ServiceFields)
     (w : CertificateFields) (cycle_is : IsPacketFile a slots) (service_is : IsServiceText b service) (certificate_is : IsCertificateText c w)
     (text : List ℕ) (out : Appends old new text) where
-  bytes_mean : (verdict : FeedVerdict) → IsFeedTold slots (pages_of service) (certificate_at w) named d verdict text → zero ≡ feed_status verdict →
-      MeansReceived false a b c d old new (Ok zero)
-  bytes_mean (Unlike unlike) told is = absurd (omega arith)
-  bytes_mean (No start slot breach) told is = absurd (omega arith)
-  bytes_mean (Shifted start slot by count) told is = absurd (omega arith)
-  bytes_mean (Yes start count wrong streak rest) told is =
-      let h = told.exact.2 in (
+  bytes_mean : (verdict : FeedVerdict) → IsFeedVerdict slots (pages_of service) (certificate_at w) named d verdict →
+      text ≡ feed_said json (pages_of service) verdict → zero ≡ feed_status verdict → MeansReceived json false a b c d old new (Ok zero)
+  bytes_mean (Unlike unlike) exact said is = absurd (omega arith)
+  bytes_mean (No start slot breach) exact said is = absurd (omega arith)
+  bytes_mean (Shifted start slot by count) exact said is = absurd (omega arith)
+  bytes_mean (Yes start count wrong streak rest) exact said is =
+      let h = exact.2 in (
         start,
         count,
         wrong,
         streak,
         rest,
-        subst (Appends old new) told.text_is out,
+        subst (Appends old new) (said ∙ feed_yes json (pages_of service) start count wrong streak rest) out,
         record {
           slots = slots;
           service = service;
@@ -101,18 +114,18 @@ module _ (a b c : List ℕ) (named : Option ℕ) (d : List ℕ) (old new : Optio
         },
       )
 
-  rows_mean : (verdict : RowVerdict) → IsRowTold slots (pages_of service) (certificate_at w) named d verdict text → zero ≡ row_status verdict →
-      MeansReceived true a b c d old new (Ok zero)
-  rows_mean (row.Unlike unlike) told is = absurd (omega arith)
-  rows_mean (row.No start slot breach) told is = absurd (omega arith)
-  rows_mean (row.Shifted start slot by count) told is = absurd (omega arith)
-  rows_mean (row.Yes start count lost rest) told is =
-      let h = told.exact.2 in (
+  rows_mean : (verdict : RowVerdict) → IsRowVerdict slots (pages_of service) (certificate_at w) named d verdict →
+      text ≡ row_said json (pages_of service) verdict → zero ≡ row_status verdict → MeansReceived json true a b c d old new (Ok zero)
+  rows_mean (row.Unlike unlike) exact said is = absurd (omega arith)
+  rows_mean (row.No start slot breach) exact said is = absurd (omega arith)
+  rows_mean (row.Shifted start slot by count) exact said is = absurd (omega arith)
+  rows_mean (row.Yes start count lost rest) exact said is =
+      let h = exact.2 in (
         start,
         count,
         lost,
         rest,
-        subst (Appends old new) told.text_is out,
+        subst (Appends old new) (said ∙ row_yes json (pages_of service) start count lost rest) out,
         record {
           slots = slots;
           service = service;
@@ -130,27 +143,41 @@ module _ (a b c : List ℕ) (named : Option ℕ) (d : List ℕ) (old new : Optio
         },
       )
 
-pub means : (by_rows : Bool) (a b c : List ℕ) (named : Option ℕ) (d : List ℕ) (old new : Option (List ℕ)) (result : Result ℕ ToolFault) →
-    Monitors by_rows a b c named d old new result → MeansReceived by_rows a b c d old new result
-means false a b c named d old new (Ok zero) m =
+pub means : (json by_rows : Bool) (a b c : List ℕ) (named : Option ℕ) (d : List ℕ) (old new : Option (List ℕ)) (result : Result ℕ ToolFault) →
+    Monitors json by_rows a b c named d old new result → MeansReceived json by_rows a b c d old new result
+means false false a b c named d old new (Ok zero) m =
     let i = m.1 in
-    bytes_mean a b c named d old new i.slots i.service i.w i.cycle_is i.service_is i.certificate_is m.0 m.2 i.told.0 i.told.1 i.told.2
-means true a b c named d old new (Ok zero) m =
+    bytes_mean false a b c named d old new i.slots i.service i.w i.cycle_is i.service_is i.certificate_is m.0 m.2 i.told.0 i.told.1.exact
+    i.told.1.text_is i.told.2
+means false true a b c named d old new (Ok zero) m =
     let i = m.1 in
-    rows_mean a b c named d old new i.slots i.service i.w i.cycle_is i.service_is i.certificate_is m.0 m.2 i.told.0 i.told.1 i.told.2
-means false a b c named d old new (Ok (suc n)) m = tt
-means true a b c named d old new (Ok (suc n)) m = tt
-means false a b c named d old new (Err fault) m = tt
-means true a b c named d old new (Err fault) m = tt
+    rows_mean false a b c named d old new i.slots i.service i.w i.cycle_is i.service_is i.certificate_is m.0 m.2 i.told.0 i.told.1.exact
+    i.told.1.text_is i.told.2
+means true false a b c named d old new (Ok zero) m =
+    let i = m.1 in
+    bytes_mean true a b c named d old new i.slots i.service i.w i.cycle_is i.service_is i.certificate_is m.0 m.2 i.told.0 i.told.1.exact
+    i.told.1.text_is i.told.2
+means true true a b c named d old new (Ok zero) m =
+    let i = m.1 in
+    rows_mean true a b c named d old new i.slots i.service i.w i.cycle_is i.service_is i.certificate_is m.0 m.2 i.told.0 i.told.1.exact
+    i.told.1.text_is i.told.2
+means false false a b c named d old new (Ok (suc n)) m = tt
+means false false a b c named d old new (Err fault) m = tt
+means false true a b c named d old new (Ok (suc n)) m = tt
+means false true a b c named d old new (Err fault) m = tt
+means true false a b c named d old new (Ok (suc n)) m = tt
+means true false a b c named d old new (Err fault) m = tt
+means true true a b c named d old new (Ok (suc n)) m = tt
+means true true a b c named d old new (Err fault) m = tt
 
-pub means_if : (by_rows : Bool) (named : Option ℕ) (old new : Option (List ℕ)) (result : Result ℕ ToolFault) (a b c d : Option (List ℕ)) →
-    IfSome a (λ x. IfSome b (λ y. IfSome c (λ z. IfSome d (λ u. Monitors by_rows x y z named u old new result)))) →
-    IfSome a (λ x. IfSome b (λ y. IfSome c (λ z. IfSome d (λ u. MeansReceived by_rows x y z u old new result))))
-means_if by_rows named old new result (Some a) (Some b) (Some c) (Some d) m = means by_rows a b c named d old new result m
-means_if by_rows named old new result (Some a) (Some b) (Some c) None m = tt
-means_if by_rows named old new result (Some a) (Some b) None d m = tt
-means_if by_rows named old new result (Some a) None c d m = tt
-means_if by_rows named old new result None b c d m = tt
+pub means_if : (json by_rows : Bool) (named : Option ℕ) (old new : Option (List ℕ)) (result : Result ℕ ToolFault) (a b c d : Option (List ℕ)) →
+    IfSome a (λ x. IfSome b (λ y. IfSome c (λ z. IfSome d (λ u. Monitors json by_rows x y z named u old new result)))) →
+    IfSome a (λ x. IfSome b (λ y. IfSome c (λ z. IfSome d (λ u. MeansReceived json by_rows x y z u old new result))))
+means_if json by_rows named old new result (Some a) (Some b) (Some c) (Some d) m = means json by_rows a b c named d old new result m
+means_if json by_rows named old new result (Some a) (Some b) (Some c) None m = tt
+means_if json by_rows named old new result (Some a) (Some b) None d m = tt
+means_if json by_rows named old new result (Some a) None c d m = tt
+means_if json by_rows named old new result None b c d m = tt
 
 -- the same of a report
 reports_mean : (a b c d : List ℕ) (asked : Asked) (old new : Option (List ℕ)) (slots : List (List ℕ)) (service : ServiceFields) (w : CertificateFields) →

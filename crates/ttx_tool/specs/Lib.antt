@@ -26,7 +26,6 @@ pub mod ReplayPage
 pub mod Report
 pub mod Monitor
 pub mod MonitorReports
-pub mod MonitorJson
 pub mod Reports
 pub mod PlannedFiles
 pub mod PlanLaws

@@ -19,7 +19,7 @@ pub mod find;
 pub mod find_deadline;
 pub mod inspect;
 pub mod monitor;
-pub mod monitor_json;
+mod monitor_json;
 pub mod monitor_reports;
 mod monitor_rows;
 pub mod pages;

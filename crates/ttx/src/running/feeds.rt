@@ -49,6 +49,7 @@ pub fn monitor(rt: &HostRuntime, order: &MonitorOrder<'_>) -> Outcome {
         let how = Judged {
             start: order.start,
             by_rows: order.rows,
+            json: order.json,
         };
         return Ok(status_of(rt, monitor_feed(rt, claim, feed, how)));
     }

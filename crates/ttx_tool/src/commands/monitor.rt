@@ -9,6 +9,7 @@ ghost use Rattle.ttx_files.specs.Devices.{AtCycle, AtService, AtCertificate, AtF
 ghost use Rattle.ttx_tool.specs.Devices.{is_tool_write, Fails, Reads, read_from, written_to};
 ghost use Rattle.ttx_tool.specs.Monitor.{feed_status, IsTelling, IsFaultOfFeed, TellsFeed, MonitorsText, Monitors, MeansReceived};
 
+use super::monitor_json;
 use super::monitor_rows::tell_rows;
 use super::reports::write_text;
 use crate::faults::ToolFault;
@@ -28,11 +29,12 @@ pub(super) fn feed_status(verdict: FeedVerdict) -> u8
     }
 }
 
-/// How a feed is judged: from which slot of the cycle on, if that is named, and whether by rows.
+/// How a feed is judged: from which slot of the cycle on, if that is named, and whether by rows; and whether the verdict is a JSON object.
 #[derive(Clone, Copy)]
 pub struct Judged {
     pub start: Option<u32>,
     pub by_rows: bool,
+    pub json: bool,
 }
 
 // The text of the verdict on a feed by bytes, and its status.
@@ -43,7 +45,7 @@ fn tell_bytes<R: Read>(
     feed: &mut Counted<R>,
 ) -> Result<Told<u8>, ToolFault>
     ensures bytes { IfSome (R.remaining (inner_of feed.old)) (λ d. TellsFeed
-        (IsTelling false (slots_of inputs.now.cycle) inputs.now.service (fields_of inputs.now.certificate) named d) result) }
+        (IsTelling false false (slots_of inputs.now.cycle) inputs.now.service (fields_of inputs.now.certificate) named d) result) }
     ensures own { IsFaultOfFeed result }
     ensures faults { Fails (read_from AtFeed R.remaining feed.old feed.new ∷ []) result }
 {
@@ -57,6 +59,44 @@ fn tell_bytes<R: Read>(
     }
 }
 
+// The same as lines or as an object.
+fn tell_by_bytes<R: Read>(
+    alloc: Global,
+    inputs: &Inputs,
+    how: Judged,
+    feed: &mut Counted<R>,
+) -> Result<Told<u8>, ToolFault>
+    ensures bytes { IfSome (R.remaining (inner_of feed.old)) (λ d. TellsFeed
+        (IsTelling how.json false (slots_of inputs.now.cycle) inputs.now.service (fields_of inputs.now.certificate) how.start d) result) }
+    ensures own { IsFaultOfFeed result }
+    ensures faults { Fails (read_from AtFeed R.remaining feed.old feed.new ∷ []) result }
+{
+    if how.json {
+        monitor_json::tell_bytes(alloc, inputs, how.start, feed)
+    } else {
+        tell_bytes(alloc, inputs, how.start, feed)
+    }
+}
+
+// The same by rows.
+fn tell_by_rows<R: Read>(
+    alloc: Global,
+    inputs: &Inputs,
+    how: Judged,
+    feed: &mut Counted<R>,
+) -> Result<Told<u8>, ToolFault>
+    ensures bytes { IfSome (R.remaining (inner_of feed.old)) (λ d. TellsFeed
+        (IsTelling how.json true (slots_of inputs.now.cycle) inputs.now.service (fields_of inputs.now.certificate) how.start d) result) }
+    ensures own { IsFaultOfFeed result }
+    ensures faults { Fails (read_from AtFeed R.remaining feed.old feed.new ∷ []) result }
+{
+    if how.json {
+        monitor_json::tell_rows(alloc, inputs, how.start, feed)
+    } else {
+        tell_rows(alloc, inputs, how.start, feed)
+    }
+}
+
 // The same by the rule that is asked for.
 fn tell<R: Read>(
     alloc: Global,
@@ -65,14 +105,14 @@ fn tell<R: Read>(
     feed: &mut Counted<R>,
 ) -> Result<Told<u8>, ToolFault>
     ensures bytes { IfSome (R.remaining (inner_of feed.old)) (λ d. TellsFeed
-        (IsTelling how.by_rows (slots_of inputs.now.cycle) inputs.now.service (fields_of inputs.now.certificate) how.start d) result) }
+        (IsTelling how.json how.by_rows (slots_of inputs.now.cycle) inputs.now.service (fields_of inputs.now.certificate) how.start d) result) }
     ensures own { IsFaultOfFeed result }
     ensures faults { Fails (read_from AtFeed R.remaining feed.old feed.new ∷ []) result }
 {
     if how.by_rows {
-        tell_rows(alloc, inputs, how.start, feed)
+        tell_by_rows(alloc, inputs, how, feed)
     } else {
-        tell_bytes(alloc, inputs, how.start, feed)
+        tell_by_bytes(alloc, inputs, how, feed)
     }
 }
 
@@ -88,7 +128,7 @@ fn monitor_files<A: Read, B: Read, C: Read, R: Read>(
     ensures bytes { IfSome (A.remaining (inner_of cycle.old)) (λ a.
         IfSome (B.remaining (inner_of service.old)) (λ b.
         IfSome (C.remaining (inner_of certificate.old)) (λ c.
-        IfSome (R.remaining (inner_of feed.old)) (λ d. MonitorsText how.by_rows a b c how.start d result)))) }
+        IfSome (R.remaining (inner_of feed.old)) (λ d. MonitorsText how.json how.by_rows a b c how.start d result)))) }
     ensures faults { Reads (read_from AtCycle A.remaining cycle.old cycle.new ∷ read_from AtService B.remaining service.old service.new
         ∷ read_from AtCertificate C.remaining certificate.old certificate.new ∷ read_from AtFeed R.remaining feed.old feed.new ∷ []) result }
 {
@@ -113,7 +153,7 @@ fn judge<A: Read, B: Read, C: Read, R: Read, W: Write>(
         IfSome (B.remaining (inner_of service.old)) (λ b.
         IfSome (C.remaining (inner_of certificate.old)) (λ c.
         IfSome (R.remaining (inner_of feed.old)) (λ d.
-        Monitors how.by_rows a b c how.start d (W.contents (inner_of writer.old)) (W.contents (inner_of writer.new)) result)))) }
+        Monitors how.json how.by_rows a b c how.start d (W.contents (inner_of writer.old)) (W.contents (inner_of writer.new)) result)))) }
     ensures faults { Fails (read_from AtCycle A.remaining cycle.old cycle.new ∷ read_from AtService B.remaining service.old service.new
         ∷ read_from AtCertificate C.remaining certificate.old certificate.new ∷ read_from AtFeed R.remaining feed.old feed.new
         ∷ written_to writer.old writer.new ∷ []) result }
@@ -127,10 +167,10 @@ fn judge<A: Read, B: Read, C: Read, R: Read, W: Write>(
 }
 
 /// Reads a packet file, the text of a service and that of a certificate, in this order, and then a feed slot by slot, which begins with
-/// the slot of the cycle that is named, or with the one that is found. Writes the text of the verdict on the feed, by the rule that is asked
-/// for: the status is 0 if it is yes, otherwise 1.
+/// the slot of the cycle that is named, or with the one that is found. Writes the verdict on the feed, by the rule and in the form that are
+/// asked for: the status is 0 if it is yes, otherwise 1.
 ///
-/// A yes means that the feed is a reception within the error rule, from the slot of the cycle that the line names on. If the certifier accepts
+/// A yes means that the feed is a reception within the error rule, from the slot of the cycle that it names on. If the certifier accepts
 /// the three files and the feed reaches the deadline, each permitted receiver of this feed shows each page.
 ///
 /// Nothing is written before everything is judged. After `Write` exactly the first `written` bytes of the text went out; after any other
@@ -148,12 +188,12 @@ pub fn run<A: Read, B: Read, C: Read, R: Read, W: Write>(
         IfSome (B.remaining (inner_of service.old)) (λ b.
         IfSome (C.remaining (inner_of certificate.old)) (λ c.
         IfSome (R.remaining (inner_of feed.old)) (λ d.
-        Monitors how.by_rows a b c how.start d (W.contents (inner_of writer.old)) (W.contents (inner_of writer.new)) result)))) }
+        Monitors how.json how.by_rows a b c how.start d (W.contents (inner_of writer.old)) (W.contents (inner_of writer.new)) result)))) }
     ensures means { IfSome (A.remaining (inner_of cycle.old)) (λ a.
         IfSome (B.remaining (inner_of service.old)) (λ b.
         IfSome (C.remaining (inner_of certificate.old)) (λ c.
         IfSome (R.remaining (inner_of feed.old)) (λ d.
-        MeansReceived how.by_rows a b c d (W.contents (inner_of writer.old)) (W.contents (inner_of writer.new)) result)))) }
+        MeansReceived how.json how.by_rows a b c d (W.contents (inner_of writer.old)) (W.contents (inner_of writer.new)) result)))) }
     ensures faults { Fails (read_from AtCycle A.remaining cycle.old cycle.new ∷ read_from AtService B.remaining service.old service.new
         ∷ read_from AtCertificate C.remaining certificate.old certificate.new ∷ read_from AtFeed R.remaining feed.old feed.new
         ∷ written_to writer.old writer.new ∷ []) result }

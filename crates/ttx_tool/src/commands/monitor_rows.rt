@@ -1,6 +1,6 @@
 //! `monitor --rows`: the verdict by rows.
 
-ghost use Rattle.std.specs.Prelude.{◌≡◌, ◌∷◌, [], true, IfSome};
+ghost use Rattle.std.specs.Prelude.{◌≡◌, ◌∷◌, [], false, true, IfSome};
 ghost use Rattle.ttx_certificate.specs.Certificates.{fields_of};
 ghost use Rattle.ttx_cycle.specs.Counters.{inner_of};
 ghost use Rattle.ttx_cycle.specs.Cycles.{slots_of};
@@ -33,7 +33,7 @@ pub(super) fn tell_rows<R: Read>(
     feed: &mut Counted<R>,
 ) -> Result<Told<u8>, ToolFault>
     ensures bytes { IfSome (R.remaining (inner_of feed.old)) (λ d. TellsFeed
-        (IsTelling true (slots_of inputs.now.cycle) inputs.now.service (fields_of inputs.now.certificate) named d) result) }
+        (IsTelling false true (slots_of inputs.now.cycle) inputs.now.service (fields_of inputs.now.certificate) named d) result) }
     ensures own { IsFaultOfFeed result }
     ensures faults { Fails (read_from AtFeed R.remaining feed.old feed.new ∷ []) result }
 {

@@ -10,12 +10,12 @@ pub returns-then-how-clause-bytes : goal.returns-then-how-clause-bytes
 returns-then-how-clause-bytes g c =
     let inputs = c.args.inputs.now in
     subst (λ by. IfSome (g.R.Read.remaining (inner_of c.args.feed.now)) (λ d. TellsFeed
-    (IsTelling by (slots_of inputs.cycle) inputs.service (fields_of inputs.certificate) c.args.how.start d) c.tell_rows.result))
-    (sym c.if-how.true) c.tell_rows.ensures.bytes
+    (IsTelling c.args.how.json by (slots_of inputs.cycle) inputs.service (fields_of inputs.certificate) c.args.how.start d) c.tell_by_rows.result))
+    (sym c.if-how.true) c.tell_by_rows.ensures.bytes
 
 pub returns-else-how-clause-bytes : goal.returns-else-how-clause-bytes
 returns-else-how-clause-bytes g c =
     let inputs = c.args.inputs.now in
     subst (λ by. IfSome (g.R.Read.remaining (inner_of c.args.feed.now)) (λ d. TellsFeed
-    (IsTelling by (slots_of inputs.cycle) inputs.service (fields_of inputs.certificate) c.args.how.start d) c.tell_bytes.result))
-    (sym c.if-how.false) c.tell_bytes.ensures.bytes
+    (IsTelling c.args.how.json by (slots_of inputs.cycle) inputs.service (fields_of inputs.certificate) c.args.how.start d) c.tell_by_bytes.result))
+    (sym c.if-how.false) c.tell_by_bytes.ensures.bytes
