@@ -5,7 +5,7 @@
 --   shows_promises          whether waits stand beside promises
 --   IsWaitOf, IsPromisedWaitOf, IsWaitBeside        the lines for a cycle and a service; beside its promises; either of both
 --   IsNumbersWaitOf         the same, and behind them those of the numbers with several pages
---   IsWaitRecordOf          the objects of a cycle and a service with its promises
+--   IsWaitRecordOf, IsItemRecordOf, IsRecordOf, IsNumbersRecordOf   the same as objects: beside promises; with items; either; with numbers
 --   IsWaitAsked             what is asked for
 --   IsWaiting               the same for their texts
 --   WaitsText               what is returned for them
@@ -17,6 +17,8 @@ use Rattle.ttx_files.specs.declared.faults.FilesFault.TheVariants.{Write}
 use Rattle.ttx_files.specs.declared.told.Told.{Told}
 use Rattle.ttx_page.specs.declared.class.Class.{Class}
 use Rattle.ttx_promise.specs.PromisedReports.{IsPromisedReport}
+use Rattle.ttx_records.specs.ItemReports.{IsItemWaitRecord}
+use Rattle.ttx_records.specs.NumberWaits.{IsNumberWaitRecord}
 use Rattle.ttx_records.specs.WaitReports.{IsWaitRecord}
 use Rattle.ttx_source.specs.Promises.{PromiseFields}
 use Rattle.ttx_source.specs.Services.{ServiceFields, pages_of}
@@ -75,8 +77,28 @@ pub record IsWaitRecordOf (slots : List (List ℕ)) (service : ServiceFields) (p
   pub report : IsWaitRecord slots service class repeat promises text deadline late
   pub status_is : status ≡ promised_status late deadline
 
+pub record IsItemRecordOf (slots : List (List ℕ)) (service : ServiceFields) (repeat : ℕ) (class : Class) (text : List ℕ) (status : ℕ)
+    : Type 0 where
+  pub deadline : Option ℕ
+  pub report : IsItemWaitRecord slots service class repeat text deadline
+  pub status_is : status ≡ wait_status deadline
+
+abbrev pub IsRecordOf : Detail → List (List ℕ) → ServiceFields → List PromiseFields → ℕ → Class → List ℕ → ℕ → Type 0
+IsRecordOf detail.Pages slots service promises repeat class text status = IsWaitRecordOf slots service promises repeat class text status
+IsRecordOf detail.Items slots service promises repeat class text status = IsItemRecordOf slots service repeat class text status
+
+pub record IsNumbersRecordOf (slots : List (List ℕ)) (service : ServiceFields) (promises : List PromiseFields) (repeat : ℕ) (class : Class)
+    (detail : Detail) (text : List ℕ) (status : ℕ) : Type 0 where
+  pub waits : List ℕ
+  pub numbers : List ℕ
+  pub told : IsRecordOf detail slots service promises repeat class waits status
+  pub lines : IsNumberWaitRecord slots service numbers
+  pub text_is : text ≡ waits ++ numbers
+
 abbrev pub IsWaitBy : (json numbers : Bool) → Question → Bool → List (List ℕ) → ServiceFields → List PromiseFields → List ℕ → ℕ → Type 0
-IsWaitBy true numbers q beside slots service promises text status = IsWaitRecordOf slots service promises q.repeat q.class text status
+IsWaitBy true true q beside slots service promises text status =
+    IsNumbersRecordOf slots service promises q.repeat q.class q.detail text status
+IsWaitBy true false q beside slots service promises text status = IsRecordOf q.detail slots service promises q.repeat q.class text status
 IsWaitBy false true q beside slots service promises text status =
     IsNumbersWaitOf beside slots service promises q.repeat q.class q.detail text status
 IsWaitBy false false q beside slots service promises text status =

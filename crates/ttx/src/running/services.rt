@@ -17,13 +17,17 @@ use ttx_tool::{ToolFault, commands};
 
 // On a terminal the report is long.
 fn check_input(rt: &HostRuntime, input: Input, order: &CheckOrder<'_>) -> Result<u8, ToolFault> {
-    let style = Style {
-        file: shown_name(order.service),
-        long: order.long || rt.stdout().is_terminal(),
-        strict: order.strict,
-    };
+    let (file, strict) = (shown_name(order.service), order.strict);
     let mut reader = buffered(rt, input)?;
     let mut writer = Counted::new(io::writer(rt));
+    if order.json {
+        return commands::check_json::run(rt.alloc(), file, strict, &mut reader, &mut writer);
+    }
+    let style = Style {
+        file,
+        long: order.long || rt.stdout().is_terminal(),
+        strict,
+    };
     commands::check::run(rt.alloc(), style, &mut reader, &mut writer)
 }
 

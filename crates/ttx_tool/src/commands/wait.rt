@@ -9,7 +9,7 @@ ghost use Rattle.ttx_files.specs.Devices.{AtCycle, AtService};
 ghost use Rattle.ttx_source.specs.PromiseViews.{promise_view};
 ghost use Rattle.ttx_tool.specs.Devices.{is_tool_write, Fails, Reads, read_from, written_to};
 ghost use Rattle.ttx_tool.specs.Wait.{wait_status, promised_status, shows_promises, IsWaitOf, IsPromisedWaitOf, IsWaitBeside, IsNumbersWaitOf};
-ghost use Rattle.ttx_tool.specs.Wait.{IsWaitRecordOf, IsWaitAsked, WaitsText, Waits};
+ghost use Rattle.ttx_tool.specs.Wait.{IsWaitRecordOf, IsItemRecordOf, IsRecordOf, IsNumbersRecordOf, IsWaitAsked, WaitsText, Waits};
 
 use super::promised::{Promised, PromisedInputs, read_promised_inputs};
 use super::reports::write_text;
@@ -20,7 +20,7 @@ use ttx_cycle::{Counted, Cycle};
 use ttx_files::{FilesFault, Told};
 use ttx_page::Class;
 use ttx_promise::{PromisedReport, report_promises};
-use ttx_records::report_waits;
+use ttx_records::{report_item_waits, report_number_waits, report_waits};
 use ttx_source::Service;
 use ttx_subpages::number_waits;
 use ttx_wait::{Detail, report_with};
@@ -177,7 +177,7 @@ fn tell_numbers(
 }
 
 // The objects for a cycle and a service with its promises.
-fn tell_records(
+fn tell_pages(
     alloc: Global,
     inputs: &PromisedInputs,
     question: Question,
@@ -198,6 +198,60 @@ fn tell_records(
     Ok(told_of(report))
 }
 
+// The same with an object for each item of a page.
+fn tell_items(
+    alloc: Global,
+    inputs: &PromisedInputs,
+    question: Question,
+) -> Result<Told<u8>, NoMemory>
+    requires some { 1 ≤ question.repeat }
+    requires few { question.repeat ≤ 8 }
+    ensures { IfOk result (λ told. IsItemRecordOf (slots_of inputs.now.cycle) inputs.now.promised.service question.repeat question.class
+        (string_bytes told.line) told.verdict) }
+{
+    let service = &inputs.promised.service;
+    let (class, repeat) = (question.class, question.repeat);
+    let waiting = report_item_waits(alloc, &inputs.cycle, service, class, repeat)?;
+    Ok(Told {
+        verdict: wait_status(waiting.deadline),
+        line: waiting.text,
+    })
+}
+
+// Either of both.
+fn tell_records(
+    alloc: Global,
+    inputs: &PromisedInputs,
+    question: Question,
+) -> Result<Told<u8>, NoMemory>
+    requires some { 1 ≤ question.repeat }
+    requires few { question.repeat ≤ 8 }
+    ensures { IfOk result (λ told. IsRecordOf question.detail (slots_of inputs.now.cycle) inputs.now.promised.service
+        (map promise_view inputs.now.promised.promises.items) question.repeat question.class (string_bytes told.line) told.verdict) }
+{
+    match question.detail {
+        Detail::Pages => tell_pages(alloc, inputs, question),
+        Detail::Items => tell_items(alloc, inputs, question),
+    }
+}
+
+// The same, and behind them the objects of the numbers.
+fn tell_number_records(
+    alloc: Global,
+    inputs: &PromisedInputs,
+    question: Question,
+) -> Result<Told<u8>, NoMemory>
+    requires some { 1 ≤ question.repeat }
+    requires few { question.repeat ≤ 8 }
+    ensures { IfOk result (λ told. IsNumbersRecordOf (slots_of inputs.now.cycle) inputs.now.promised.service
+        (map promise_view inputs.now.promised.promises.items) question.repeat question.class question.detail (string_bytes told.line)
+        told.verdict) }
+{
+    let waits = tell_records(alloc, inputs, question)?;
+    let numbers = report_number_waits(alloc, &inputs.cycle, &inputs.promised.service)?;
+    joined(waits, numbers.as_str())
+}
+
 // What is asked for.
 fn tell_asked(
     alloc: Global,
@@ -211,7 +265,8 @@ fn tell_asked(
         (string_bytes told.line) told.verdict) }
 {
     match (question.json, question.numbers) {
-        (true, _) => tell_records(alloc, inputs, question),
+        (true, true) => tell_number_records(alloc, inputs, question),
+        (true, false) => tell_records(alloc, inputs, question),
         (false, true) => tell_numbers(alloc, inputs, question),
         (false, false) => tell_beside(alloc, &inputs.cycle, &inputs.promised, question),
     }
