@@ -17,7 +17,7 @@ use Rattle.ttx_files.specs.declared.faults.FilesFault.TheVariants.{Write}
 use Rattle.ttx_files.specs.declared.told.Told.{Told}
 use Rattle.ttx_page.specs.declared.class.Class.{Class}
 use Rattle.ttx_promise.specs.PromisedReports.{IsPromisedReport}
-use Rattle.ttx_records.specs.ItemReports.{IsItemWaitRecord}
+use Rattle.ttx_records.specs.ItemWaits.{IsItemWaitRecord}
 use Rattle.ttx_records.specs.NumberWaits.{IsNumberWaitRecord}
 use Rattle.ttx_records.specs.WaitReports.{IsWaitRecord}
 use Rattle.ttx_source.specs.Promises.{PromiseFields}

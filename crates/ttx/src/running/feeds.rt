@@ -26,26 +26,6 @@ fn monitor_feed(rt: &HostRuntime, claim: Claim, feed: Input, how: Judged) -> Res
     )
 }
 
-fn monitor_as_json(
-    rt: &HostRuntime,
-    claim: Claim,
-    feed: Input,
-    how: Judged,
-) -> Result<u8, ToolFault> {
-    let mut readers = claim.readers(rt)?;
-    let mut feed = buffered(rt, feed)?;
-    let mut writer = Counted::new(io::writer(rt));
-    commands::monitor_json::run(
-        rt.alloc(),
-        &mut readers.cycle,
-        &mut readers.service,
-        &mut readers.text,
-        how,
-        &mut feed,
-        &mut writer,
-    )
-}
-
 fn report_feed(rt: &HostRuntime, claim: Claim, feed: Input, asked: Asked) -> Result<u8, ToolFault> {
     let mut readers = claim.readers(rt)?;
     let mut feed = buffered(rt, feed)?;
@@ -71,9 +51,6 @@ pub fn monitor(rt: &HostRuntime, order: &MonitorOrder<'_>) -> Outcome {
             by_rows: order.rows,
             json: order.json,
         };
-        if order.json {
-            return Ok(status_of(rt, monitor_as_json(rt, claim, feed, how)));
-        }
         return Ok(status_of(rt, monitor_feed(rt, claim, feed, how)));
     }
     let asked = Asked {

@@ -31,19 +31,9 @@ fn check_input(rt: &HostRuntime, input: Input, order: &CheckOrder<'_>) -> Result
     commands::check::run(rt.alloc(), style, &mut reader, &mut writer)
 }
 
-fn check_as_json(rt: &HostRuntime, input: Input, order: &CheckOrder<'_>) -> Result<u8, ToolFault> {
-    let file = shown_name(order.service);
-    let mut reader = buffered(rt, input)?;
-    let mut writer = Counted::new(io::writer(rt));
-    commands::check_json::run(rt.alloc(), file, order.strict, &mut reader, &mut writer)
-}
-
 /// Opens the service, or an author's text, and reports what is wrong, or probably wrong, in it.
 pub fn check(rt: &HostRuntime, order: &CheckOrder<'_>) -> Outcome {
     let input = open_input(rt, order.service)?;
-    if order.json {
-        return Ok(status_of(rt, check_as_json(rt, input, order)));
-    }
     Ok(status_of(rt, check_input(rt, input, order)))
 }
 
