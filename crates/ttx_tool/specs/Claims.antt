@@ -2,6 +2,7 @@
 --
 --   IfKnown                 what holds of their bytes, where these are known
 --   claim_devices           the devices of a command that reads them and writes its answer, before and after
+--   twice_devices           the same of one that reads the packet file twice, behind the two texts
 --   change_devices          the same of one that reads an old claim and a new one, the old one of each file first
 use Rattle.std.specs.Prelude.{ℕ, List, [], ◌∷◌, Option, IfSome}
 use Rattle.ttx_cycle.specs.Counters.{inner_of}
@@ -33,4 +34,13 @@ change_devices a b c d e f old new old' new' before after =
     ∷ read_from AtService d new.service new'.service
     ∷ read_from AtCertificate e old.certificate old'.certificate
     ∷ read_from AtCertificate f new.certificate new'.certificate
+    ∷ written_to before after ∷ []
+
+abbrev pub twice_devices : {A B C D W : Type 0} → (A → Option (List ℕ)) → (B → Option (List ℕ)) → (C → Option (List ℕ)) → (D → Option (List ℕ)) →
+    Counted A → Claim B C D → Counted A → Claim B C D → Counted W → Counted W → List Device
+twice_devices a b c d first claim first' claim' before after =
+    read_from AtService c claim.service claim'.service
+    ∷ read_from AtCertificate d claim.certificate claim'.certificate
+    ∷ read_from AtCycle a first first'
+    ∷ read_from AtCycle b claim.cycle claim'.cycle
     ∷ written_to before after ∷ []

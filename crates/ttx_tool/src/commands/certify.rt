@@ -1,24 +1,23 @@
 //! `certify`: whether a cycle is accepted with a certificate for the pages of a service.
 
-ghost use Rattle.std.specs.Prelude.{◌≡◌, ◌∷◌, []};
+ghost use Rattle.std.specs.Prelude.{◌≡◌};
 ghost use Rattle.ttx_cycle.specs.Counters.{inner_of};
 ghost use Rattle.ttx_files.specs.Answers.{IsUntouched};
-ghost use Rattle.ttx_files.specs.Devices.{AtCycle, AtService, AtCertificate, IsFirstFailure};
+ghost use Rattle.ttx_files.specs.Devices.{IsFirstFailure};
 ghost use Rattle.ttx_tool.specs.Answers.{verdict_status, late_status, numbers_status, required_status};
 ghost use Rattle.ttx_tool.specs.Certify.{CertifiesBy, CertifiesTwice};
-ghost use Rattle.ttx_tool.specs.Claims.{claim_devices};
-ghost use Rattle.ttx_tool.specs.Devices.{is_tool_write, failed_at, read_from, written_to};
+ghost use Rattle.ttx_tool.specs.Claims.{claim_devices, twice_devices};
+ghost use Rattle.ttx_tool.specs.Devices.{is_tool_write, failed_at};
 
 use super::{certify_json, certify_lines};
 use crate::claims::Claim;
 use crate::faults::ToolFault;
 use std::alloc::Global;
 use std::io::{Read, Write};
-use ttx_certify::{Verdict, certify_passes};
+use ttx_certify::Verdict;
 use ttx_cycle::Counted;
 use ttx_deadline::RequiredVerdict;
 use ttx_late::LateVerdict;
-use ttx_records::certify_passes_json;
 use ttx_subpages::NumbersVerdict;
 
 /// What a cycle is judged for.
@@ -125,23 +124,13 @@ pub fn run_twice<A: Read, B: Read, C: Read, D: Read, W: Write>(
     ensures bytes { CertifiesTwice json (A.remaining (inner_of first.old)) (B.remaining (inner_of claim.old.cycle))
         (C.remaining (inner_of claim.old.service)) (D.remaining (inner_of claim.old.certificate))
         (W.contents (inner_of writer.old)) (W.contents (inner_of writer.new)) result }
-    ensures faults { IsFirstFailure (read_from AtService C.remaining claim.old.service claim.new.service
-        ∷ read_from AtCertificate D.remaining claim.old.certificate claim.new.certificate ∷ read_from AtCycle A.remaining first.old first.new
-        ∷ read_from AtCycle B.remaining claim.old.cycle claim.new.cycle ∷ written_to writer.old writer.new ∷ []) (failed_at result) }
+    ensures faults { IsFirstFailure (twice_devices A.remaining B.remaining C.remaining D.remaining first.old claim.old first.new claim.new
+        writer.old writer.new) (failed_at result) }
     ensures untouched { IsUntouched is_tool_write result writer.old writer.new }
 {
-    let (second, service, certificate) = (
-        &mut claim.cycle,
-        &mut claim.service,
-        &mut claim.certificate,
-    );
-    let answer = if json {
-        certify_passes_json(alloc, first, second, service, certificate, writer)
+    if json {
+        certify_json::twice(alloc, first, claim, writer)
     } else {
-        certify_passes(alloc, first, second, service, certificate, writer)
-    };
-    match answer {
-        Ok(verdict) => Ok(verdict_status(verdict)),
-        Err(fault) => Err(ToolFault::Files(fault)),
+        certify_lines::twice(alloc, first, claim, writer)
     }
 }

@@ -1,10 +1,11 @@
 //! The answers of `certify` as lines.
 
+ghost use Rattle.std.specs.Prelude.{false};
 ghost use Rattle.ttx_cycle.specs.Counters.{inner_of};
 ghost use Rattle.ttx_files.specs.Answers.{IsUntouched};
 ghost use Rattle.ttx_files.specs.Devices.{IsFirstFailure};
-ghost use Rattle.ttx_tool.specs.Certify.{CertifiesBy};
-ghost use Rattle.ttx_tool.specs.Claims.{claim_devices};
+ghost use Rattle.ttx_tool.specs.Certify.{CertifiesBy, CertifiesTwice};
+ghost use Rattle.ttx_tool.specs.Claims.{claim_devices, twice_devices};
 ghost use Rattle.ttx_tool.specs.Devices.{is_tool_write, failed_at};
 ghost use Rattle.ttx_tool.specs.declared.commands.certify.Judgement.TheVariants.{AtOnce, All, Late, Numbers, Within};
 
@@ -13,7 +14,7 @@ use crate::claims::Claim;
 use crate::faults::ToolFault;
 use std::alloc::Global;
 use std::io::{Read, Write};
-use ttx_certify::{certify_files, certify_files_all};
+use ttx_certify::{certify_files, certify_files_all, certify_passes};
 use ttx_cycle::Counted;
 use ttx_deadline::certify_files_required;
 use ttx_late::certify_files_late;
@@ -126,6 +127,31 @@ pub(super) fn within<A: Read, B: Read, C: Read, W: Write>(
     );
     match certify_files_required(alloc, cycle, service, certificate, Some(required), writer) {
         Ok(verdict) => Ok(required_status(verdict)),
+        Err(fault) => Err(ToolFault::Files(fault)),
+    }
+}
+
+/// The verdict on the second of two readings, for receivers that show a page at once.
+pub(super) fn twice<A: Read, B: Read, C: Read, D: Read, W: Write>(
+    alloc: Global,
+    first: &mut Counted<A>,
+    claim: &mut Claim<B, C, D>,
+    writer: &mut Counted<W>,
+) -> Result<u8, ToolFault>
+    ensures bytes { CertifiesTwice false (A.remaining (inner_of first.old)) (B.remaining (inner_of claim.old.cycle))
+        (C.remaining (inner_of claim.old.service)) (D.remaining (inner_of claim.old.certificate))
+        (W.contents (inner_of writer.old)) (W.contents (inner_of writer.new)) result }
+    ensures faults { IsFirstFailure (twice_devices A.remaining B.remaining C.remaining D.remaining first.old claim.old first.new claim.new
+        writer.old writer.new) (failed_at result) }
+    ensures untouched { IsUntouched is_tool_write result writer.old writer.new }
+{
+    let (second, service, certificate) = (
+        &mut claim.cycle,
+        &mut claim.service,
+        &mut claim.certificate,
+    );
+    match certify_passes(alloc, first, second, service, certificate, writer) {
+        Ok(verdict) => Ok(verdict_status(verdict)),
         Err(fault) => Err(ToolFault::Files(fault)),
     }
 }

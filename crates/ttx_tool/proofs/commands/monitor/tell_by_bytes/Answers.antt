@@ -1,4 +1,4 @@
-use Rattle.std.proofs.Common.{sym, subst}
+use Rattle.std.proofs.Common.{false, sym, subst}
 use Rattle.std.specs.Prelude.{IfSome}
 use Rattle.ttx_cycle.specs.Counters.{inner_of}
 use Rattle.ttx_cycle.specs.Cycles.{slots_of}
