@@ -22,6 +22,7 @@ pub mod monitor;
 mod monitor_json;
 pub mod monitor_reports;
 mod monitor_rows;
+pub mod other_kind;
 pub mod pages;
 pub mod plan;
 pub mod plan_spread;
