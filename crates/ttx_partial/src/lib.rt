@@ -2,6 +2,7 @@
 #![tactic(auto)]
 
 mod asides;
+pub mod laws;
 mod other_packets;
 
 pub use other_packets::others;

@@ -1,0 +1,3 @@
+mod FilledHeaders
+mod SetAside
+mod KeptPages
