@@ -15,7 +15,6 @@ use Rattle.ttx_partial.proofs.SetAside.{Answers, IsKept, IsReplaced, clash, clas
 abbrev pub Replaces : Id → Stream → Stream → Type 0
 Replaces id s t = (j : ℤ) → Answers id (s j) (t j)
 
-
 not_both : (b : Bool) → b ≡ true → b ≡ false → ⊥
 not_both b e f = grind arith
 
@@ -63,16 +62,22 @@ row_sent : (id page : Id) (r : ℕ) (s t : Stream) → Replaces id s t → same_
     IsTransmission t page (TheRow r) j
 row_sent id page r s t all apart j is = record {
   owner = is.owner;
-  owned = (latest id page.mag s t all is.owner j is.owned.0, headed id page s t all apart is.owner is.owned.1,
-    carried id page.mag (TheRow r) s t all j is.owned.2);
+  owned = (
+    latest id page.mag s t all is.owner j is.owned.0,
+    headed id page s t all apart is.owner is.owned.1,
+    carried id page.mag (TheRow r) s t all j is.owned.2,
+  );
 }
 
 links_sent : (id page : Id) (s t : Stream) → Replaces id s t → same_number id page ≡ false → (j : ℤ) → IsTransmission s page TheLinks j →
     IsTransmission t page TheLinks j
 links_sent id page s t all apart j is = record {
   owner = is.owner;
-  owned = (latest id page.mag s t all is.owner j is.owned.0, headed id page s t all apart is.owner is.owned.1,
-    carried id page.mag TheLinks s t all j is.owned.2);
+  owned = (
+    latest id page.mag s t all is.owner j is.owned.0,
+    headed id page s t all apart is.owner is.owned.1,
+    carried id page.mag TheLinks s t all j is.owned.2,
+  );
 }
 
 other_subpage : (id : Id) (pages : List Page) (p : Page) (s t : Stream) → Replaces id s t → same_number id p.id ≡ false → (j : ℤ) →
@@ -103,7 +108,7 @@ row_differs id p s t all apart j is = record {
   needed = is.needed;
   sent = row_sent id p.id is.row s t all apart j is.sent;
   differs = subst (λ x. RowIsRight p is.row (packet_of x) → ⊥)
-    (sym (carried_by id p.id.mag (TheRow is.row) (s j) (t j) (all j) is.sent.owned.2)) is.differs;
+      (sym (carried_by id p.id.mag (TheRow is.row) (s j) (t j) (all j) is.sent.owned.2)) is.differs;
 }
 
 links_differ : (id : Id) (p : Page) (s t : Stream) → Replaces id s t → same_number id p.id ≡ false → (j : ℤ) → LinksDifferAt s p j → LinksDifferAt t p j

@@ -2,7 +2,13 @@
 #![tactic(auto)]
 
 mod asides;
+mod extraction;
 pub mod laws;
+mod left_out;
 mod other_packets;
+mod partial_lines;
 
+pub use extraction::{Partial, extract_partly};
+pub use left_out::{LeftOut, Why};
 pub use other_packets::others;
+pub use partial_lines::push_partial;
