@@ -15,6 +15,8 @@ pub mod decompose;
 pub mod diagnosis;
 pub mod explain;
 pub mod extract;
+pub mod extract_lines;
+pub mod extract_partly;
 pub mod find;
 pub mod find_deadline;
 pub mod inspect;

@@ -65,15 +65,12 @@ pub fn book(rt: &HostRuntime, cycle: &str, out: &str) -> Outcome {
     Ok(told_of(rt, &reader, status))
 }
 
-fn extract_from(
+// The status of an extraction. A refusal has a line of its own.
+fn extraction_status(
     rt: &HostRuntime,
-    reader: &mut RecordedInput,
-    lines: u8,
-    out: File,
+    outcome: Result<u8, ExtractionFault>,
 ) -> Result<u8, ToolFault> {
-    let mut file = Counted::new(out);
-    let mut writer = Counted::new(io::writer(rt));
-    match commands::extract::run(rt.alloc(), reader, lines, &mut file, &mut writer) {
+    match outcome {
         Ok(status) => Ok(status),
         Err(ExtractionFault::Tool(fault)) => Err(fault),
         Err(ExtractionFault::Refused(fault)) => {
@@ -83,8 +80,26 @@ fn extract_from(
     }
 }
 
-/// Opens the cycle, makes the service's file anew, and writes to it the service that the cycle sends.
-pub fn extract(rt: &HostRuntime, cycle: &str, out: &str, lines: u8) -> Outcome {
+fn extract_from(
+    rt: &HostRuntime,
+    reader: &mut RecordedInput,
+    lines: u8,
+    partial: bool,
+    out: File,
+) -> Result<u8, ToolFault> {
+    let mut file = Counted::new(out);
+    let mut writer = Counted::new(io::writer(rt));
+    let outcome = if partial {
+        commands::extract_partly::run(rt.alloc(), reader, lines, &mut file, &mut writer)
+    } else {
+        commands::extract::run(rt.alloc(), reader, lines, &mut file, &mut writer)
+    };
+    extraction_status(rt, outcome)
+}
+
+/// Opens the cycle, makes the service's file anew, and writes to it the service that the cycle sends, without the pages that no service text
+/// can have where it is partial.
+pub fn extract(rt: &HostRuntime, cycle: &str, out: &str, lines: u8, partial: bool) -> Outcome {
     let cycle = open_input(rt, cycle)?;
     let Some(file) = create_out(rt, &[&cycle], out)? else {
         return Ok(report(rt, &ToolFault::Same));
@@ -93,6 +108,22 @@ pub fn extract(rt: &HostRuntime, cycle: &str, out: &str, lines: u8) -> Outcome {
         Ok(reader) => reader,
         Err(fault) => return Ok(report(rt, &fault)),
     };
-    let status = status_of(rt, extract_from(rt, &mut reader, lines, file));
+    let status = status_of(rt, extract_from(rt, &mut reader, lines, partial, file));
+    Ok(told_of(rt, &reader, status))
+}
+
+fn name_lines(rt: &HostRuntime, reader: &mut RecordedInput) -> Result<u8, ToolFault> {
+    let mut writer = Counted::new(io::writer(rt));
+    let outcome = commands::extract_lines::run(rt.alloc(), reader, &mut writer);
+    extraction_status(rt, outcome)
+}
+
+/// Opens the cycle, and names the lines of a field with which its pages have a deadline. No file is made.
+pub fn extract_lines(rt: &HostRuntime, cycle: &str) -> Outcome {
+    let mut reader = match recorded(rt, open_input(rt, cycle)?) {
+        Ok(reader) => reader,
+        Err(fault) => return Ok(report(rt, &fault)),
+    };
+    let status = status_of(rt, name_lines(rt, &mut reader));
     Ok(told_of(rt, &reader, status))
 }
