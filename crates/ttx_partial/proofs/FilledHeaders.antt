@@ -1,6 +1,5 @@
 -- A header with page number FF in the place of its own: still a header of its magazine.
-use Rattle.std.proofs.Common.{◌≡◌, ℕ, zero, suc, ◌+◌, ◌*◌, ◌<◌, ◌^◌, Bool, true, false, ◌&&◌, ◌==◌, List, [], ◌∷◌, length, take, drop, refl, ap, sym, ◌∙◌, subst, arith, slice_index, is_some, unwrap_or, Some}
-use Rattle.std.specs.List.{list_all}
+use Rattle.std.proofs.Common.{◌≡◌, ℕ, zero, suc, ◌+◌, ◌*◌, ◌<◌, ◌^◌, Bool, true, ◌&&◌, ◌==◌, List, [], ◌∷◌, take, drop, refl, ap, sym, subst, arith, slice_index, is_some, unwrap_or, Some}
 use Rattle.ttx_code.specs.Words.{reading, number_of, ones, distance, hamming_word}
 use Rattle.ttx_packet.specs.Slots.{IsSlot, IsHeader, kind_of, are_readable, read_number}
 use Rattle.ttx_header.specs.Ids.{Id}

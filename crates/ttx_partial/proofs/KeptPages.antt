@@ -1,15 +1,15 @@
 -- A page that the cycle without a number sends unchanged is sent unchanged by the cycle itself: `kept`.
-use Rattle.std.proofs.Common.{◌≡◌, ◌⊎◌, inl, inr, ℕ, ◌<◌, ℤ, Bool, true, false, List, [], length, map, refl, ap, sym, ◌∙◌, subst, arith, slice_index_or}
+use Rattle.std.proofs.Common.{◌≡◌, inl, inr, ℕ, ℤ, Bool, true, false, List, ap, sym, ◌∙◌, subst, arith}
 use Rattle.ttx_header.specs.Ids.{Id}
-use Rattle.ttx_page.specs.Packets.{Packet, packet_of}
+use Rattle.ttx_page.specs.Packets.{packet_of}
 use Rattle.ttx_page.specs.Pages.{Page}
 use Rattle.ttx_page.specs.declared.selection.Selection.TheVariants.{AnySub}
 use Rattle.ttx_page.specs.declared.item.Item.{Item}
-use Rattle.ttx_page.specs.declared.item.Item.TheVariants.{Head as TheHead, Row as TheRow, Links as TheLinks}
-use Rattle.ttx_page.specs.Streams.{Stream, heads, heads_page, heads_matched, carries, IsOwned, IsLatestHeader, IsTransmission}
-use Rattle.ttx_page.specs.Steady.{Steady, HasHeader, OtherSubpageAt, ErasedAt, HeadDiffersAt, RowDiffersAt, LinksDifferAt, erases_page, IsLikeHead, RowIsRight, LinksAreRight}
-use Rattle.ttx_partial.specs.Asides.{same_number, is_numbered}
-use Rattle.ttx_partial.proofs.SetAside.{Answers, IsKept, IsReplaced, clash, clash_number, apart_of, carries_none, same_heads, no_page}
+use Rattle.ttx_page.specs.declared.item.Item.TheVariants.{Row as TheRow, Links as TheLinks}
+use Rattle.ttx_page.specs.Streams.{Stream, heads, heads_page, heads_matched, carries, IsLatestHeader, IsTransmission}
+use Rattle.ttx_page.specs.Steady.{Steady, OtherSubpageAt, ErasedAt, HeadDiffersAt, RowDiffersAt, LinksDifferAt, erases_page, IsLikeHead, RowIsRight, LinksAreRight}
+use Rattle.ttx_partial.specs.Asides.{same_number}
+use Rattle.ttx_partial.proofs.SetAside.{Answers, clash, clash_number, apart_of, carries_none, same_heads, no_page}
 
 -- each slot of t is that of s, or a time-filling header in the place of one of the number
 abbrev pub Replaces : Id → Stream → Stream → Type 0

@@ -1,11 +1,11 @@
 -- Pages that are left out one after another.
-use Rattle.std.proofs.Common.{◌≡◌, ◌⊎◌, inl, inr, ℕ, List, [], ◌∷◌, ◌++◌, length, Option, None, Result, Ok, Err, length-append, arith, ◌+◌, refl, ap, sym, ◌∙◌, subst}
+use Rattle.std.proofs.Common.{◌≡◌, inl, inr, ℕ, List, [], ◌∷◌, ◌++◌, length, None, Result, Ok, Err, length-append, arith, ◌+◌, ap, sym, ◌∙◌, subst}
 use Rattle.ttx_extract.specs.Extracts.{AnswersFault}
 use Rattle.ttx_extract.specs.declared.faults.ExtractFault.{ExtractFault}
 use Rattle.ttx_extract.specs.declared.faults.ExtractFault.TheVariants.{Conflict, Reason, Info, Service, TooLong, Unsaid, NoMemory}
 use Rattle.ttx_partial.specs.Asides.{aside}
 use Rattle.ttx_partial.specs.LeftOut.{fault_page, IsLeft, AreLeft, most_left}
-use Rattle.ttx_partial.specs.Partials.{IsText, IsPartial, IsNoPartial, ExtractsLast, ExtractsPartly}
+use Rattle.ttx_partial.specs.Partials.{IsNoPartial, ExtractsLast, ExtractsPartly}
 use Rattle.ttx_partial.specs.declared.left_out.LeftOut.{LeftOut}
 use Rattle.ttx_partial.specs.declared.extraction.Partial.{Partial}
 

@@ -1,10 +1,10 @@
 -- A slot of a cycle without a number: the slot itself, or a header with page number FF.
-use Rattle.std.proofs.Common.{◌≡◌, ◌⊎◌, inl, inr, ℕ, ◌<◌, ℤ, Bool, true, false, ◌&&◌, ◌==◌, List, [], ◌∷◌, length, map, refl, ap, sym, ◌∙◌, subst, arith, slice_index_or, if◌then◌else◌}
+use Rattle.std.proofs.Common.{◌≡◌, ◌⊎◌, inl, inr, ℕ, Bool, true, false, ◌==◌, List, refl, ap, sym, ◌∙◌, subst, arith, if◌then◌else◌}
 use Rattle.ttx_packet.specs.Slots.{IsSlot, Kind, IsHeader, kind_of}
-use Rattle.ttx_header.specs.Ids.{Id, same_id}
-use Rattle.ttx_header.specs.Headers.{id_of, control_of}
+use Rattle.ttx_header.specs.Ids.{Id}
+use Rattle.ttx_header.specs.Headers.{id_of}
 use Rattle.ttx_header.specs.Laws.{HeadersHaveFields, HeadersAreHeaders}
-use Rattle.ttx_page.specs.Packets.{Packet, Empty, Unreadable, Header, Row, Links, Info, Other, packet_of, packet_of_kind}
+use Rattle.ttx_page.specs.Packets.{Packet, Header, packet_of, packet_of_kind}
 use Rattle.ttx_page.specs.declared.selection.Selection.TheVariants.{AnySub}
 use Rattle.ttx_page.specs.declared.item.Item.{Item}
 use Rattle.ttx_page.specs.declared.item.Item.TheVariants.{Head as TheHead, Row as TheRow, Links as TheLinks}

@@ -3,7 +3,7 @@
 --   is_other                a packet of another kind than headers, rows 1 to 24, X/27/0 and 8/30
 --   others_to, others       how many of the first n slots have such a packet; how many of all
 use Rattle.std.specs.Prelude.{ℕ, zero, suc, Bool, true, false, if◌then◌else◌, List, [], length, slice_index_or}
-use Rattle.ttx_packet.specs.Slots.{Kind, IsEmpty, IsUnreadable, IsHeader, IsRow, IsLinks, IsInfo, IsOther, kind_of}
+use Rattle.ttx_packet.specs.Slots.{Kind, IsOther, kind_of}
 
 abbrev pub is_other_kind : Kind → Bool
 is_other_kind (IsOther mag number) = true

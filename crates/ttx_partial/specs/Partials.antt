@@ -6,7 +6,7 @@
 --   ExtractsLast            a service text, or why there is none, after these pages were left out
 --   IsPartial, IsNoPartial  the pages that are left out, and the service text of the rest; why the rest has none
 --   ExtractsPartly          what is returned for a cycle and lines of a field
-use Rattle.std.specs.Prelude.{◌≡◌, ◌⊎◌, ℕ, List, length, string_bytes, ⊤, Option, Some, None, Result, Ok, Err}
+use Rattle.std.specs.Prelude.{◌≡◌, ◌⊎◌, ℕ, List, length, string_bytes, ⊤, None, Result, Ok, Err}
 use Rattle.ttx_certify.specs.CertifyingFiles.{IsServiceText}
 use Rattle.ttx_extract.specs.Extracts.{IsExtract, AnswersFault}
 use Rattle.ttx_extract.specs.declared.extracting.Extracted.{Extracted}
