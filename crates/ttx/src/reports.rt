@@ -2,6 +2,7 @@
 
 use ttx_cycle::Counted;
 use ttx_files::FilesFault;
+use ttx_kinds::Place;
 use ttx_tool::{AirRefusal, ToolFault, commands};
 
 // The status of a fault, also if the line cannot be written.
@@ -64,5 +65,17 @@ pub fn diagnosed(rt: &HostRuntime, bytes: &[u8], status: u8) -> u8 {
     status_of(
         rt,
         commands::diagnosis::run(rt.alloc(), bytes, status, &mut errors),
+    )
+}
+
+/// The status of a command on an input of these first bytes; where it is not done, says if the input is of another kind than its place takes.
+pub fn told(rt: &HostRuntime, place: Place, bytes: &[u8], status: u8) -> u8 {
+    if status == 0 || status >= FAULT {
+        return status;
+    }
+    let mut errors = Counted::new(rt.stderr());
+    status_of(
+        rt,
+        commands::other_kind::run(rt.alloc(), place, bytes, status, &mut errors),
     )
 }

@@ -74,14 +74,11 @@ pub fn run_order(rt: &HostRuntime, order: &Order<'_>) -> Outcome {
             cycle,
             out,
             lines,
-            partial: _,
-        } => {
-            let lines = match lines {
-                Some(lines) => lines.count(),
-                None => 16,
-            };
-            cycles::extract(rt, cycle, out, lines)
-        }
+            partial,
+        } => match lines {
+            Some(lines) => cycles::extract(rt, cycle, out, lines.count(), *partial),
+            None => cycles::extract_lines(rt, cycle),
+        },
         Order::Check(order) => services::check(rt, order),
         Order::Version => Ok(status_of(rt, version(rt))),
     }

@@ -17,6 +17,8 @@ pub mod SpreadPlans
 pub mod Preview
 pub mod PreviewAll
 pub mod Extract
+pub mod ExtractPartly
+pub mod ExtractLines
 pub mod Find
 pub mod FindDeadline
 pub mod Refute

@@ -141,14 +141,15 @@ fn report_to(
 ) -> Result<u8, ToolFault> {
     let mut file = Counted::new(out);
     let mut readers = claim.readers(rt)?;
-    commands::report::run(
+    let answer = commands::report::run(
         rt.alloc(),
         &mut readers.cycle,
         &mut readers.service,
         &mut readers.text,
         date,
         &mut file,
-    )
+    );
+    Ok(readers.told(rt, status_of(rt, answer)))
 }
 
 // Whether there is a date that is not in the calendar.
@@ -193,13 +194,14 @@ fn wait_for(rt: &HostRuntime, inputs: SentService, order: &WaitOrder<'_>) -> Res
         numbers: order.numbers,
         json: order.json,
     };
-    commands::wait::run(
+    let answer = commands::wait::run(
         rt.alloc(),
         &mut readers.cycle,
         &mut readers.service,
         question,
         &mut writer,
-    )
+    );
+    Ok(readers.told(rt, status_of(rt, answer)))
 }
 
 /// Opens the cycle and the service, and writes how long viewers of each page wait.

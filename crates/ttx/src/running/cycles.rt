@@ -1,14 +1,13 @@
 //! The commands that take a cycle alone: `inspect`, `pages`, `book`, `extract`.
 
 use super::Outcome;
-use super::inputs::{buffered, recorded};
+use super::inputs::{RecordedInput, buffered, recorded};
 use crate::devices::{Input, create_out, open_input};
-use crate::reports::{diagnosed, report, status_of};
+use crate::reports::{diagnosed, report, status_of, told};
 use std::fs::File;
 use std::io;
-use std::io::BufReader;
 use ttx_cycle::Counted;
-use ttx_recognition::Recorded;
+use ttx_kinds::Place;
 use ttx_tool::{ExtractionFault, ToolFault, commands};
 
 fn inspect_input(rt: &HostRuntime, input: Input) -> Result<u8, ToolFault> {
@@ -22,10 +21,13 @@ pub fn inspect(rt: &HostRuntime, file: &str) -> Outcome {
     Ok(status_of(rt, inspect_input(rt, open_input(rt, file)?)))
 }
 
-// A packet file, of which the first bytes are kept.
-type PacketFile = Counted<Recorded<BufReader<Input>>>;
+// The status of a command on a cycle; says what it is if it is no packet file.
+fn told_of(rt: &HostRuntime, reader: &RecordedInput, status: u8) -> u8 {
+    let bytes = reader.get_ref().kept();
+    told(rt, Place::Cycle, bytes, diagnosed(rt, bytes, status))
+}
 
-fn pages_of(rt: &HostRuntime, reader: &mut PacketFile, json: bool) -> Result<u8, ToolFault> {
+fn pages_of(rt: &HostRuntime, reader: &mut RecordedInput, json: bool) -> Result<u8, ToolFault> {
     let mut writer = Counted::new(io::writer(rt));
     if json {
         commands::pages::run_json(rt.alloc(), reader, &mut writer)
@@ -41,10 +43,10 @@ pub fn pages(rt: &HostRuntime, cycle: &str, json: bool) -> Outcome {
         Err(fault) => return Ok(report(rt, &fault)),
     };
     let status = status_of(rt, pages_of(rt, &mut reader, json));
-    Ok(diagnosed(rt, reader.get_ref().kept(), status))
+    Ok(told_of(rt, &reader, status))
 }
 
-fn book_of(rt: &HostRuntime, reader: &mut PacketFile, out: File) -> Result<u8, ToolFault> {
+fn book_of(rt: &HostRuntime, reader: &mut RecordedInput, out: File) -> Result<u8, ToolFault> {
     let mut file = Counted::new(out);
     commands::book::run(rt.alloc(), reader, &mut file)
 }
@@ -60,18 +62,15 @@ pub fn book(rt: &HostRuntime, cycle: &str, out: &str) -> Outcome {
         Err(fault) => return Ok(report(rt, &fault)),
     };
     let status = status_of(rt, book_of(rt, &mut reader, file));
-    Ok(diagnosed(rt, reader.get_ref().kept(), status))
+    Ok(told_of(rt, &reader, status))
 }
 
-fn extract_from(
+// The status of an extraction. A refusal has a line of its own.
+fn extraction_status(
     rt: &HostRuntime,
-    reader: &mut PacketFile,
-    lines: u8,
-    out: File,
+    outcome: Result<u8, ExtractionFault>,
 ) -> Result<u8, ToolFault> {
-    let mut file = Counted::new(out);
-    let mut writer = Counted::new(io::writer(rt));
-    match commands::extract::run(rt.alloc(), reader, lines, &mut file, &mut writer) {
+    match outcome {
         Ok(status) => Ok(status),
         Err(ExtractionFault::Tool(fault)) => Err(fault),
         Err(ExtractionFault::Refused(fault)) => {
@@ -81,8 +80,26 @@ fn extract_from(
     }
 }
 
-/// Opens the cycle, makes the service's file anew, and writes to it the service that the cycle sends.
-pub fn extract(rt: &HostRuntime, cycle: &str, out: &str, lines: u8) -> Outcome {
+fn extract_from(
+    rt: &HostRuntime,
+    reader: &mut RecordedInput,
+    lines: u8,
+    partial: bool,
+    out: File,
+) -> Result<u8, ToolFault> {
+    let mut file = Counted::new(out);
+    let mut writer = Counted::new(io::writer(rt));
+    let outcome = if partial {
+        commands::extract_partly::run(rt.alloc(), reader, lines, &mut file, &mut writer)
+    } else {
+        commands::extract::run(rt.alloc(), reader, lines, &mut file, &mut writer)
+    };
+    extraction_status(rt, outcome)
+}
+
+/// Opens the cycle, makes the service's file anew, and writes to it the service that the cycle sends, without the pages that no service text
+/// can have where it is partial.
+pub fn extract(rt: &HostRuntime, cycle: &str, out: &str, lines: u8, partial: bool) -> Outcome {
     let cycle = open_input(rt, cycle)?;
     let Some(file) = create_out(rt, &[&cycle], out)? else {
         return Ok(report(rt, &ToolFault::Same));
@@ -91,6 +108,22 @@ pub fn extract(rt: &HostRuntime, cycle: &str, out: &str, lines: u8) -> Outcome {
         Ok(reader) => reader,
         Err(fault) => return Ok(report(rt, &fault)),
     };
-    let status = status_of(rt, extract_from(rt, &mut reader, lines, file));
-    Ok(diagnosed(rt, reader.get_ref().kept(), status))
+    let status = status_of(rt, extract_from(rt, &mut reader, lines, partial, file));
+    Ok(told_of(rt, &reader, status))
+}
+
+fn name_lines(rt: &HostRuntime, reader: &mut RecordedInput) -> Result<u8, ToolFault> {
+    let mut writer = Counted::new(io::writer(rt));
+    let outcome = commands::extract_lines::run(rt.alloc(), reader, &mut writer);
+    extraction_status(rt, outcome)
+}
+
+/// Opens the cycle, and names the lines of a field with which its pages have a deadline. No file is made.
+pub fn extract_lines(rt: &HostRuntime, cycle: &str) -> Outcome {
+    let mut reader = match recorded(rt, open_input(rt, cycle)?) {
+        Ok(reader) => reader,
+        Err(fault) => return Ok(report(rt, &fault)),
+    };
+    let status = status_of(rt, name_lines(rt, &mut reader));
+    Ok(told_of(rt, &reader, status))
 }

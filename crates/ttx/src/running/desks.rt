@@ -1,12 +1,13 @@
 //! The commands of an author's desk: `compose`, `decompose`.
 
 use super::Outcome;
-use super::inputs::buffered;
+use super::inputs::{buffered, recorded};
 use crate::devices::{Input, create_out, open_input};
-use crate::reports::{report, status_of};
+use crate::reports::{report, status_of, told};
 use std::io;
 use std::io::Write;
 use ttx_cycle::Counted;
+use ttx_kinds::Place;
 use ttx_tool::commands::standing::Standing;
 use ttx_tool::{ToolFault, commands};
 
@@ -36,6 +37,14 @@ enum Desk {
 }
 
 impl Desk {
+    // Where the text stands among the arguments.
+    fn place(self) -> Place {
+        match self {
+            Desk::Compose => Place::Author,
+            Desk::Decompose => Place::Service,
+        }
+    }
+
     // Reads the text, and writes what is made of it to `out`, and lines to `lines`.
     fn run<O: Write + Drop, W: Write + Drop>(
         self,
@@ -44,18 +53,20 @@ impl Desk {
         out: O,
         lines: W,
     ) -> Result<u8, ToolFault> {
-        let mut reader = buffered(rt, text.input)?;
+        let mut reader = recorded(rt, text.input)?;
         let mut file = Counted::new(out);
         let mut writer = Counted::new(lines);
         let alloc = rt.alloc();
-        match self {
+        let answer = match self {
             Desk::Compose => {
                 commands::compose::run(alloc, text.name, &mut reader, &mut file, &mut writer)
             }
             Desk::Decompose => {
                 commands::decompose::run(alloc, text.name, &mut reader, &mut file, &mut writer)
             }
-        }
+        };
+        let status = status_of(rt, answer);
+        Ok(told(rt, self.place(), reader.get_ref().kept(), status))
     }
 
     // Opens the text, makes OUT anew, and runs. Where OUT is standard output, lines go to standard error.

@@ -1,21 +1,33 @@
 //! The command that judges what comes back from the air: `monitor`.
 
 use super::Outcome;
-use super::inputs::{Claim, buffered};
+use super::inputs::{Claim, ClaimReaders, RecordedInput, recorded};
 use crate::devices::{Input, open_input};
-use crate::reports::status_of;
+use crate::reports::{status_of, told};
 use std::io;
 use ttx_arguments::MonitorOrder;
 use ttx_cycle::Counted;
+use ttx_kinds::Place;
 use ttx_monitor::Asked;
 use ttx_tool::commands::monitor::Judged;
 use ttx_tool::{ToolFault, commands};
 
+// The status of a command on a claim and a feed; says which input is of another kind than its place takes.
+fn feed_told(
+    rt: &HostRuntime,
+    readers: &ClaimReaders,
+    feed: &RecordedInput,
+    answer: Result<u8, ToolFault>,
+) -> u8 {
+    let status = readers.told(rt, status_of(rt, answer));
+    told(rt, Place::Feed, feed.get_ref().kept(), status)
+}
+
 fn monitor_feed(rt: &HostRuntime, claim: Claim, feed: Input, how: Judged) -> Result<u8, ToolFault> {
     let mut readers = claim.readers(rt)?;
-    let mut feed = buffered(rt, feed)?;
+    let mut feed = recorded(rt, feed)?;
     let mut writer = Counted::new(io::writer(rt));
-    commands::monitor::run(
+    let answer = commands::monitor::run(
         rt.alloc(),
         &mut readers.cycle,
         &mut readers.service,
@@ -23,14 +35,15 @@ fn monitor_feed(rt: &HostRuntime, claim: Claim, feed: Input, how: Judged) -> Res
         how,
         &mut feed,
         &mut writer,
-    )
+    );
+    Ok(feed_told(rt, &readers, &feed, answer))
 }
 
 fn report_feed(rt: &HostRuntime, claim: Claim, feed: Input, asked: Asked) -> Result<u8, ToolFault> {
     let mut readers = claim.readers(rt)?;
-    let mut feed = buffered(rt, feed)?;
+    let mut feed = recorded(rt, feed)?;
     let mut writer = Counted::new(io::writer(rt));
-    commands::monitor_reports::run(
+    let answer = commands::monitor_reports::run(
         rt.alloc(),
         &mut readers.cycle,
         &mut readers.service,
@@ -38,7 +51,8 @@ fn report_feed(rt: &HostRuntime, claim: Claim, feed: Input, asked: Asked) -> Res
         asked,
         &mut feed,
         &mut writer,
-    )
+    );
+    Ok(feed_told(rt, &readers, &feed, answer))
 }
 
 /// Opens the cycle, the service, the certificate and the feed, and judges the feed, or reports it while it comes.

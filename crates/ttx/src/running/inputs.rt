@@ -1,15 +1,20 @@
 //! The opened inputs of a command.
 
 use crate::devices::{Input, open_input};
+use crate::reports::told;
 use std::io;
 use std::io::BufReader;
 use ttx_cycle::Counted;
 use ttx_files::FilesFault;
+use ttx_kinds::Place;
 use ttx_recognition::Recorded;
 use ttx_tool::ToolFault;
 
-// What inputs are read through.
-type Source = BufReader<Input>;
+// What inputs are read through: the first bytes are kept.
+type Source = Recorded<BufReader<Input>>;
+
+/// A reader of an input, of which the first bytes are kept.
+pub type RecordedInput = Counted<Source>;
 
 /// A buffered reader of an input.
 pub fn buffered(rt: &HostRuntime, input: Input) -> Result<Counted<BufReader<Input>>, ToolFault> {
@@ -20,18 +25,23 @@ pub fn buffered(rt: &HostRuntime, input: Input) -> Result<Counted<BufReader<Inpu
 }
 
 /// A buffered reader of an input, which keeps the first bytes that are read through it.
-pub fn recorded(
-    rt: &HostRuntime,
-    input: Input,
-) -> Result<Counted<Recorded<BufReader<Input>>>, ToolFault> {
+pub fn recorded(rt: &HostRuntime, input: Input) -> Result<RecordedInput, ToolFault> {
     Ok(Counted::new(Recorded::new(buffered(rt, input)?.into_inner())))
 }
 
 /// The readers of a cycle and of the service that it is to send.
 #[derive(Drop)]
 pub struct SentServiceReaders {
-    pub cycle: Counted<BufReader<Input>>,
-    pub service: Counted<BufReader<Input>>,
+    pub cycle: RecordedInput,
+    pub service: RecordedInput,
+}
+
+impl SentServiceReaders {
+    /// The status of a command on both; says which of them is of another kind than its place takes.
+    pub fn told(&self, rt: &HostRuntime, status: u8) -> u8 {
+        let status = told(rt, Place::Cycle, self.cycle.get_ref().kept(), status);
+        told(rt, Place::Service, self.service.get_ref().kept(), status)
+    }
 }
 
 /// A cycle, and the service that it is to send.
@@ -51,8 +61,8 @@ impl SentService {
 
     /// Buffered readers of both.
     pub fn readers(self, rt: &HostRuntime) -> Result<SentServiceReaders, ToolFault> {
-        let cycle = buffered(rt, self.cycle)?;
-        let service = buffered(rt, self.service)?;
+        let cycle = recorded(rt, self.cycle)?;
+        let service = recorded(rt, self.service)?;
         Ok(SentServiceReaders { cycle, service })
     }
 }
@@ -60,9 +70,18 @@ impl SentService {
 /// The readers of a claim.
 #[derive(Drop)]
 pub struct ClaimReaders {
-    pub cycle: Counted<BufReader<Input>>,
-    pub service: Counted<BufReader<Input>>,
-    pub text: Counted<BufReader<Input>>,
+    pub cycle: RecordedInput,
+    pub service: RecordedInput,
+    pub text: RecordedInput,
+}
+
+impl ClaimReaders {
+    /// The status of a command on the three, of which the text is a certificate; says which of them is of another kind than its place takes.
+    pub fn told(&self, rt: &HostRuntime, status: u8) -> u8 {
+        let status = told(rt, Place::Cycle, self.cycle.get_ref().kept(), status);
+        let status = told(rt, Place::Service, self.service.get_ref().kept(), status);
+        told(rt, Place::Certificate, self.text.get_ref().kept(), status)
+    }
 }
 
 /// A cycle, the service that it is to send, and a third text on both: a certificate, or a counter-run.
@@ -88,9 +107,9 @@ impl Claim {
 
     /// Buffered readers of the three.
     pub fn readers(self, rt: &HostRuntime) -> Result<ClaimReaders, ToolFault> {
-        let cycle = buffered(rt, self.cycle)?;
-        let service = buffered(rt, self.service)?;
-        let text = buffered(rt, self.text)?;
+        let cycle = recorded(rt, self.cycle)?;
+        let service = recorded(rt, self.service)?;
+        let text = recorded(rt, self.text)?;
         Ok(ClaimReaders {
             cycle,
             service,

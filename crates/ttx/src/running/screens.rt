@@ -2,15 +2,15 @@
 
 use super::Outcome;
 use super::desks::standing;
-use super::inputs::{buffered, recorded};
+use super::inputs::{RecordedInput, buffered, recorded};
 use crate::devices::{Input, open_input};
-use crate::reports::{diagnosed, report, status_of};
-use std::io::{BufReader, IsTerminal};
+use crate::reports::{diagnosed, report, status_of, told};
+use std::io::IsTerminal;
 use std::{env, io};
 use ttx_arguments::{Look, Tuning};
 use ttx_cycle::Counted;
+use ttx_kinds::Place;
 use ttx_page::Selection;
-use ttx_recognition::Recorded;
 use ttx_tool::commands::standing::Standing;
 use ttx_tool::{ToolFault, commands};
 
@@ -25,7 +25,7 @@ fn shows_colours(rt: &HostRuntime) -> bool {
 
 fn show_input(
     rt: &HostRuntime,
-    reader: &mut Counted<Recorded<BufReader<Input>>>,
+    reader: &mut RecordedInput,
     tuning: &Tuning,
     look: &Look<'_>,
 ) -> Result<u8, ToolFault> {
@@ -41,7 +41,8 @@ pub fn show(rt: &HostRuntime, cycle: &str, tuning: &Tuning, look: &Look<'_>) -> 
         Err(fault) => return Ok(report(rt, &fault)),
     };
     let status = status_of(rt, show_input(rt, &mut reader, tuning, look));
-    Ok(diagnosed(rt, reader.get_ref().kept(), status))
+    let bytes = reader.get_ref().kept();
+    Ok(told(rt, Place::Cycle, bytes, diagnosed(rt, bytes, status)))
 }
 
 // Writes what is held of a page word by word.
@@ -69,7 +70,19 @@ fn preview_input(
     match standing {
         Standing::Text(text) => {
             let mut reader = Counted::new(text.as_slice());
-            commands::preview::run(rt.alloc(), &mut reader, selection, &look, &mut writer)
+            let answer = commands::preview::run(
+                rt.alloc(),
+                &mut reader,
+                selection,
+                &look,
+                &mut writer,
+            );
+            Ok(told(
+                rt,
+                Place::ServiceOrAuthor,
+                text.as_slice(),
+                status_of(rt, answer),
+            ))
         }
         Standing::Lines(lines) => commands::standing::refuse(&mut writer, lines.as_str()),
     }
@@ -93,7 +106,19 @@ fn preview_all_input(
     match standing {
         Standing::Text(text) => {
             let mut reader = Counted::new(text.as_slice());
-            commands::preview_all::run(rt.alloc(), &mut reader, look.form, look.reveal, &mut writer)
+            let answer = commands::preview_all::run(
+                rt.alloc(),
+                &mut reader,
+                look.form,
+                look.reveal,
+                &mut writer,
+            );
+            Ok(told(
+                rt,
+                Place::ServiceOrAuthor,
+                text.as_slice(),
+                status_of(rt, answer),
+            ))
         }
         Standing::Lines(lines) => commands::standing::refuse(&mut writer, lines.as_str()),
     }

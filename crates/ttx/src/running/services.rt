@@ -2,33 +2,45 @@
 
 use super::Outcome;
 use super::desks::shown_name;
-use super::inputs::buffered;
+use super::inputs::{RecordedInput, buffered, recorded};
 use crate::devices::{Input, create_out, open_input};
-use crate::reports::{report, status_of};
+use crate::reports::{report, status_of, told};
 use std::fs::File;
 use std::io;
 use std::io::{BufReader, IsTerminal};
 use ttx_arguments::{CheckOrder, PlanOrder};
 use ttx_cycle::Counted;
+use ttx_kinds::Place;
 use ttx_plan::Receivers;
 use ttx_promise::Viewers;
 use ttx_tool::commands::check::Style;
 use ttx_tool::{ToolFault, commands};
 
 // On a terminal the report is long.
-fn check_input(rt: &HostRuntime, input: Input, order: &CheckOrder<'_>) -> Result<u8, ToolFault> {
+fn checked(
+    rt: &HostRuntime,
+    reader: &mut RecordedInput,
+    order: &CheckOrder<'_>,
+) -> Result<u8, ToolFault> {
     let (file, strict) = (shown_name(order.service), order.strict);
-    let mut reader = buffered(rt, input)?;
     let mut writer = Counted::new(io::writer(rt));
     if order.json {
-        return commands::check_json::run(rt.alloc(), file, strict, &mut reader, &mut writer);
+        return commands::check_json::run(rt.alloc(), file, strict, reader, &mut writer);
     }
     let style = Style {
         file,
         long: order.long || rt.stdout().is_terminal(),
         strict,
     };
-    commands::check::run(rt.alloc(), style, &mut reader, &mut writer)
+    commands::check::run(rt.alloc(), style, reader, &mut writer)
+}
+
+// Says what the file is if it is neither a service nor an author's text.
+fn check_input(rt: &HostRuntime, input: Input, order: &CheckOrder<'_>) -> Result<u8, ToolFault> {
+    let mut reader = recorded(rt, input)?;
+    let answer = checked(rt, &mut reader, order);
+    let status = status_of(rt, answer);
+    Ok(told(rt, Place::ServiceOrAuthor, reader.get_ref().kept(), status))
 }
 
 /// Opens the service, or an author's text, and reports what is wrong, or probably wrong, in it.

@@ -1,0 +1,4 @@
+mod FilledHeaders
+mod SetAside
+mod KeptPages
+mod LeftPages
