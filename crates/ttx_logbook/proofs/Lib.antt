@@ -1,0 +1,2 @@
+mod CutTexts
+mod Powers
