@@ -1,2 +1,5 @@
+mod CutLaws
 mod CutTexts
+mod EntryLaws
+mod NumberLaws
 mod Powers

@@ -1,14 +1,14 @@
 -- Reading a line of a log, piece by piece.
 --
 --   marked                  a digest, and the words behind it
---   sent_in, kept_in, event_in      what happened
---   entry_in                the line
+--   changed_in, kept_in, event_in   what happened
+--   start_in, entry_in      the second line, and another one
 use Rattle.std.specs.Prelude.{ℕ, List, codes, Option, Some, None, if◌then◌else◌}
 use Rattle.std.specs.Str.{bytes_eq}
 use Rattle.ttx_logbook.specs.Cuts.{after, cut}
 use Rattle.ttx_logbook.specs.Steps.{◌>>=◌}
 use Rattle.ttx_logbook.specs.Numbers.{keyed_number}
-use Rattle.ttx_logbook.specs.LogTexts.{EventFields, EntryFields, OnAir, Changed, Kept, Unread, End}
+use Rattle.ttx_logbook.specs.LogTexts.{StartFields, EventFields, EntryFields, Changed, Kept, Unread, End}
 
 unfoldable pub marked : List ℕ → Option (List ℕ × List ℕ)
 marked text = do
@@ -21,10 +21,8 @@ abbrev pub by_key : {A : Type 0} → Option (List ℕ) → (List ℕ → Option 
 by_key None f second g = second >>= g
 by_key (Some rest) f second g = f rest
 
-unfoldable pub sent_in : List ℕ → Option EventFields
-sent_in text =
-    by_key (after (codes "on air ") text) (λ rest. marked rest >>= (λ p. Some (OnAir p.0 p.1)))
-    (after (codes "changed ") text) (λ rest. marked rest >>= (λ p. Some (Changed p.0 p.1)))
+unfoldable pub changed_in : List ℕ → Option EventFields
+changed_in text = after (codes "changed ") text >>= (λ rest. marked rest >>= (λ p. Some (Changed p.0 p.1)))
 
 unfoldable pub kept_in : List ℕ → Option EventFields
 kept_in text =
@@ -36,7 +34,15 @@ or_else None other = other
 or_else (Some event) other = Some event
 
 unfoldable pub event_in : List ℕ → Option EventFields
-event_in text = if bytes_eq text (codes "end") then Some End else or_else (sent_in text) (kept_in text)
+event_in text = if bytes_eq text (codes "end") then Some End else or_else (changed_in text) (kept_in text)
+
+unfoldable pub start_in : List ℕ → Option StartFields
+start_in line = do
+  field ← keyed_number (codes "field ") 32 line
+  parts ← cut 32 field.1
+  text ← after (codes "on air ") parts.1
+  mark ← marked text
+  Some (record { field = field.0; time = parts.0; digest = mark.0; words = mark.1 })
 
 unfoldable pub entry_in : List ℕ → Option EntryFields
 entry_in line = do

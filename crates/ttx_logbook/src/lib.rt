@@ -9,4 +9,4 @@ mod promises;
 mod settings;
 mod values;
 
-pub use values::{Begin, ClockName, Entry, Event, Promise, Settings, Size};
+pub use values::{Begin, ClockName, Entry, Event, Promise, Settings, Size, Start};

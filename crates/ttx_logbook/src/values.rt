@@ -51,11 +51,9 @@ pub struct Settings<'a> {
     pub clock: ClockName<'a>,
 }
 
-/// What happened. A text is named by the hexadecimal digits of its SHA-256.
+/// What happened at the end of a period, or of the air. A text is named by the hexadecimal digits of its SHA-256.
 #[derive(Clone, Copy)]
 pub enum Event<'a> {
-    /// The first text went on the air.
-    OnAir { digest: &'a str, words: &'a str },
     /// This text took over.
     Changed { digest: &'a str, words: &'a str },
     /// This text did not take over.
@@ -66,7 +64,16 @@ pub enum Event<'a> {
     End,
 }
 
-/// A line of a log: what happened before a field, and the time that the clock showed.
+/// The second line of a log: the first text went on the air.
+#[derive(Clone, Copy)]
+pub struct Start<'a> {
+    pub field: u32,
+    pub time: &'a str,
+    pub digest: &'a str,
+    pub words: &'a str,
+}
+
+/// Another line of a log: what happened before a field, and the time that the clock showed.
 #[derive(Clone, Copy)]
 pub struct Entry<'a> {
     pub field: u32,
