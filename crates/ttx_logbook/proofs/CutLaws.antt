@@ -1,5 +1,5 @@
 -- Cuts give back what was joined.
-use Rattle.std.proofs.Common.{◌≡◌, ℕ, suc, ◌+◌, ◌<◌, ◌≤◌, ◌==◌, Bool, true, false, not, List, [], ◌∷◌, ◌++◌, length, length-append, take, drop, slice_index, cond, Option, Some, None, refl, sym, ap, ◌∙◌, subst, inl, inr, arith, eq-eqb, eqb-true, if◌then◌else◌}
+use Rattle.std.proofs.Common.{◌≡◌, ℕ, suc, ◌+◌, ◌<◌, ◌==◌, true, false, not, List, [], ◌∷◌, ◌++◌, length, length-append, take, drop, Some, None, refl, sym, ap, ◌∙◌, subst, inl, inr, arith, eq-eqb, eqb-true}
 use Rattle.std.proofs.lemmas.Bool.{and_from, and_parts, cond-true, cond-false, cases_Bool}
 use Rattle.std.proofs.lemmas.Bool.Decides.{nat_tests}
 use Rattle.std.proofs.lemmas.Option.{none-some, same_Some}
@@ -70,14 +70,15 @@ unfolding cut
 mark_cut mark text a b is = elim (cases_Bool (position_or_len (λ b. b == mark) text == length text)) [
   | inl none ↦
       absurd (none-some (a, b) (sym (cond-true (position_or_len (λ b. b == mark) text == length text) None
-          (Some (before_first (λ b. b == mark) text, after_first (λ b. b == mark) text)) none) ∙ is))
+      (Some (before_first (λ b. b == mark) text, after_first (λ b. b == mark) text)) none) ∙ is))
   | inr some ↦
       let e = same_Some _ _ (sym (cond-false (position_or_len (λ b. b == mark) text == length text) None
-          (Some (before_first (λ b. b == mark) text, after_first (λ b. b == mark) text)) some) ∙ is) in
+      (Some (before_first (λ b. b == mark) text, after_first (λ b. b == mark) text)) some) ∙ is) in
       let most = prefix_len-le-length (λ b. not (b == mark)) text in
       let within : position_or_len (λ b. b == mark) text < length text = grind (arith, nat_tests) in
-      let passes = passes_at_first (λ b. b == mark) text 0 within in
-      (split_at_first (λ b. b == mark) text 0 within
-          ∙ (λ i. (ap (λ p. p.0) e i) ++ (eqb-true _ mark passes i) ∷ ap (λ p. p.1) e i),
-       subst (Lacks mark) (ap (λ p. p.0) e) (before_lacks mark text))
+      let passes = passes_at_first (λ b. b == mark) text 0 within in (
+        split_at_first (λ b. b == mark) text 0 within
+            ∙ (λ i. (ap (λ p. p.0) e i) ++ (eqb-true _ mark passes i) ∷ ap (λ p. p.1) e i),
+        subst (Lacks mark) (ap (λ p. p.0) e) (before_lacks mark text),
+      )
 ]

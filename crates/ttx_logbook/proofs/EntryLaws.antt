@@ -1,7 +1,7 @@
 -- The lines behind the first one are read as they are written.
-use Rattle.std.proofs.Common.{◌≡◌, ℕ, ◌^◌, ◌<◌, true, false, List, [], ◌∷◌, ◌++◌, codes, Option, Some, None, refl, sym, ap, ◌∙◌, subst, inl, inr}
+use Rattle.std.proofs.Common.{◌≡◌, ℕ, List, ◌∷◌, ◌++◌, codes, Option, Some, None, refl, sym, ap, ◌∙◌, subst, inl, inr}
 use Rattle.std.proofs.lemmas.Bool.{cases_Bool, cond-true, cond-false}
-use Rattle.std.proofs.lemmas.Option.{same_Some, none-some}
+use Rattle.std.proofs.lemmas.Option.{same_Some}
 use Rattle.std.proofs.lemmas.Slice.Eq.{bytes_eq-Decides}
 use Rattle.std.specs.Str.{bytes_eq}
 use Rattle.ttx_logbook.specs.Cuts.{after, cut}
@@ -86,11 +86,11 @@ unfolding start_in start_text
 start_read s is =
     let text = codes "on air " ++ marked_text s.digest s.words in
     let whole : (o : Option (ℕ × List ℕ)) → Option StartFields = λ o. o >>= (λ field. cut 32 field.1 >>= (λ parts. after (codes "on air ") parts.1
-        >>= (λ text. marked text >>= (λ mark. Some (record { field = field.0; time = parts.0; digest = mark.0; words = mark.1 }))))) in
+    >>= (λ text. marked text >>= (λ mark. Some (record { field = field.0; time = parts.0; digest = mark.0; words = mark.1 }))))) in
     let timed : (o : Option (List ℕ × List ℕ)) → Option StartFields = λ o. o >>= (λ parts. after (codes "on air ") parts.1
-        >>= (λ text. marked text >>= (λ mark. Some (record { field = s.field; time = parts.0; digest = mark.0; words = mark.1 })))) in
+    >>= (λ text. marked text >>= (λ mark. Some (record { field = s.field; time = parts.0; digest = mark.0; words = mark.1 })))) in
     let keyed : (o : Option (List ℕ)) → Option StartFields = λ o. o
-        >>= (λ text. marked text >>= (λ mark. Some (record { field = s.field; time = s.time; digest = mark.0; words = mark.1 }))) in
+    >>= (λ text. marked text >>= (λ mark. Some (record { field = s.field; time = s.time; digest = mark.0; words = mark.1 }))) in
     ap whole (keyed_read (codes "field ") s.field 32 (s.time ++ 32 ∷ text) refl is.field)
     ∙ ap timed (cut_mark 32 s.time text is.time)
     ∙ ap keyed (after_key (codes "on air ") (marked_text s.digest s.words))

@@ -1,5 +1,10 @@
 mod CutLaws
 mod CutTexts
 mod EntryLaws
+mod LineLaws
+mod ManyLines
 mod NumberLaws
 mod Powers
+mod ReadLines
+mod SecondLaws
+mod SettingsLaws

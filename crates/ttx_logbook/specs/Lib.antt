@@ -5,3 +5,4 @@ pub mod LogTexts
 pub mod Views
 pub mod SettingsReading
 pub mod EntryReading
+pub mod Logs

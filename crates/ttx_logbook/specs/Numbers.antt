@@ -2,7 +2,7 @@
 --
 --   is_number, number_in    a number below 2^32 in decimal: 1 to 10 digits without a leading zero
 --   keyed_number            the number before the next such byte, after a key, and what follows
-use Rattle.std.specs.Prelude.{◌≡◌, ℕ, ◌==◌, ◌^◌, Bool, not, ◌&&◌, ◌||◌, nat_le, nat_lt, List, length, slice_index, Option, Some, None, if◌then◌else◌}
+use Rattle.std.specs.Prelude.{ℕ, ◌==◌, ◌^◌, Bool, not, ◌&&◌, ◌||◌, nat_le, nat_lt, List, length, slice_index, Option, Some, None, if◌then◌else◌}
 use Rattle.ttx_digits.specs.Digits.{are_digits, decimal_after}
 use Rattle.ttx_logbook.specs.Cuts.{after, cut}
 use Rattle.ttx_logbook.specs.Steps.{◌>>=◌}

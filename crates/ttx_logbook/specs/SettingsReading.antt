@@ -6,7 +6,7 @@
 --   second_at, second_in, begin_in  the second of the day; the moment of the first field
 --   ahead_in, clock_in      seconds ahead of UTC; the clock
 --   settings_in             the line
-use Rattle.std.specs.Prelude.{ℕ, ◌+◌, ◌*◌, ℤ, pos, neg_ℤ, Bool, true, false, ◌&&◌, ◌==◌, nat_lt, nat_le, List, length, codes, Option, Some, None, option_map, if◌then◌else◌}
+use Rattle.std.specs.Prelude.{ℕ, ◌+◌, ◌*◌, ℤ, pos, neg_ℤ, Bool, true, false, ◌&&◌, ◌==◌, nat_lt, nat_le, List, length, codes, Option, Some, None, if◌then◌else◌}
 use Rattle.ttx_digits.specs.Digits.{two_decimals}
 use Rattle.ttx_logbook.specs.Cuts.{after, cut}
 use Rattle.ttx_logbook.specs.Steps.{◌>>=◌}

@@ -4,9 +4,14 @@
 mod beginnings;
 mod cuts;
 mod entries;
+mod lines;
+mod log;
 mod numbers;
 mod promises;
+mod reading;
 mod settings;
 mod values;
 
+pub use log::{Log, LogFault};
+pub use reading::read_log;
 pub use values::{Begin, ClockName, Entry, Event, Promise, Settings, Size, Start};
