@@ -8,3 +8,4 @@ mod Powers
 mod ReadLines
 mod SecondLaws
 mod SettingsLaws
+mod WrittenSettings

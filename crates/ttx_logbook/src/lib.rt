@@ -11,7 +11,9 @@ mod promises;
 mod reading;
 mod settings;
 mod values;
+mod writing;
 
 pub use log::{Log, LogFault};
 pub use reading::read_log;
 pub use values::{Begin, ClockName, Entry, Event, Promise, Settings, Size, Start};
+pub use writing::settings_line;
