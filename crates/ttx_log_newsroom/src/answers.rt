@@ -32,13 +32,30 @@ fn no_memory(alloc: Global) -> News
 }
 
 // The words about a text with this mark.
-fn refused(alloc: Global, mark: Result<String, AllocError>, words: &str) -> News
-    ensures { (IfOk mark (λ mark. news_of result ≡ Refused (string_bytes mark) words.now)) ⊎ (news_of result ≡ lacking []) }
+fn refused(alloc: Global, mark: String, words: &str) -> News
+    ensures { (news_of result ≡ Refused (string_bytes mark) words.now) ⊎ (news_of result ≡ lacking []) }
 {
-    match (mark, String::from_str(alloc, words)) {
-        (Ok(mark), Ok(words)) => News::Refused { mark, words },
-        _ => no_memory(alloc),
+    match String::from_str(alloc, words) {
+        Ok(words) => News::Refused { mark, words },
+        Err(_) => no_memory(alloc),
     }
+}
+
+// The words about the text with this digest.
+fn kept(alloc: Global, digest: &str, words: &str) -> News
+    ensures { (news_of result ≡ Refused (32 ∷ digest.now) words.now) ⊎ (news_of result ≡ lacking []) }
+{
+    match mark_of(alloc, digest) {
+        Ok(mark) => refused(alloc, mark, words),
+        Err(_) => no_memory(alloc),
+    }
+}
+
+// The words about no text.
+fn unread(alloc: Global, words: &str) -> News
+    ensures { (news_of result ≡ Refused [] words.now) ⊎ (news_of result ≡ lacking []) }
+{
+    refused(alloc, String::new(alloc), words)
 }
 
 // The answer to what was made of a text with this mark.
@@ -74,7 +91,7 @@ pub(crate) fn answer<P: Press>(
 {
     match told {
         Told::Changed(filed) => printed(alloc, press, on_air, filed),
-        Told::Kept { digest, words } => refused(alloc, mark_of(alloc, digest), words),
-        Told::Unread { words } => refused(alloc, Ok(String::new(alloc)), words),
+        Told::Kept { digest, words } => kept(alloc, digest, words),
+        Told::Unread { words } => unread(alloc, words),
     }
 }

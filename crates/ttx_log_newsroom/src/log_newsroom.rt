@@ -24,7 +24,7 @@ impl<'a, P> LogNewsroom<'a, P> {
     /// A newsroom over these records, in the order of their fields.
     pub fn new(press: P, records: Vec<Recorded<'a>>) -> LogNewsroom<'a, P>
         ensures press { result.press ≡ press }
-        ensures left { left_of result ≡ map recorded_of records.items }
+        ensures left { left_of result ≡ map recorded_of records.entry.items }
     {
         LogNewsroom {
             press,
@@ -40,12 +40,13 @@ impl<'a, P> LogNewsroom<'a, P> {
         if self.next >= self.records.len() {
             return None;
         }
-        let recorded = self.records[self.next];
-        if recorded.field as usize != field {
+        let of = self.records[self.next].field;
+        if of as usize != field {
             return None;
         }
+        let told = self.records[self.next].told;
         self.next += 1;
-        Some(recorded.told)
+        Some(told)
     }
 }
 
