@@ -1,6 +1,6 @@
 -- Two logs: `IsSameSoFar`.
-use Rattle.std.specs.Prelude.{◌≡◌, ◌⊎◌, ℕ, List, ◌++◌}
+use Rattle.std.specs.Prelude.{◌≡◌, ℕ, min, List, length, take}
 
--- one of them begins with the other one
+-- as far as both go
 abbrev pub IsSameSoFar : List ℕ → List ℕ → Type 0
-IsSameSoFar a b = ∥ ((rest : List ℕ) × (a ≡ b ++ rest)) ⊎ ((rest : List ℕ) × (b ≡ a ++ rest)) ∥₁
+IsSameSoFar a b = take (min (length a) (length b)) a ≡ take (min (length a) (length b)) b

@@ -30,7 +30,7 @@ use Rattle.ttx_log_newsroom.specs.LogNewsrooms.{left_of, Recounts}
 use Rattle.ttx_log_newsroom.specs.declared.log_newsroom.LogNewsroom.{LogNewsroom}
 use Rattle.ttx_replaying.specs.declared.faults.ReplayFault.{ReplayFault}
 use Rattle.ttx_replaying.specs.declared.faults.ReplayFault.TheVariants as fault
-use Rattle.std.specs.Prelude.{Bor}
+use Rattle.std.specs.Borrow.{Bor}
 
 pub record IsDemand (p : PromiseFields) (d : Demand) : Type 0 where
   pub within : d.within ≡ p.within
