@@ -24,6 +24,7 @@ pub mod FindDeadline
 pub mod Refute
 pub mod UnlikeViews
 pub mod Replay
+pub mod ReplayAir
 pub mod ReplayPage
 pub mod Report
 pub mod Monitor

@@ -34,6 +34,7 @@ mod promised;
 pub mod receive;
 pub mod refute;
 pub mod replay;
+pub mod replay_air;
 pub mod replay_page;
 pub mod report;
 mod reports;

@@ -1,0 +1,144 @@
+//! The command that puts on the air again what a log says: `air --replay`.
+
+use super::Outcome;
+use super::zones::zones_with;
+use crate::reports::{memory_fault, report, report_refusal, status_of};
+use std::fs::File;
+use std::io::IsTerminal;
+use std::{fs, io};
+use ttx_air::Outputs;
+use ttx_archive::FiledText;
+use ttx_arguments::AirReplayOrder;
+use ttx_cycle::{Counted, MOST_BYTES, TextFault, read_text};
+use ttx_files::FilesFault;
+use ttx_logbook::{ClockName, Log, read_log};
+use ttx_moment::ZoneClock;
+use ttx_replaying::{begin_of, is_same_so_far, replay};
+use ttx_send::Clock;
+use ttx_tool::{AirRefusal, ToolFault, commands};
+
+// The most bytes of a log (1 GiB).
+const MOST_LOG: usize = 1_073_741_824;
+
+// A log with its text, and the texts that were on the air.
+struct Recording<'a> {
+    text: &'a str,
+    log: &'a Log<'a>,
+    archive: &'a [FiledText],
+}
+
+// Whether there is a file of this name. A pipe or a device might never end.
+fn is_file(rt: &HostRuntime, path: &str) -> bool {
+    match fs::metadata(rt, path) {
+        Ok(known) => known.is_file(),
+        Err(_) => false,
+    }
+}
+
+// Adds the text of a file. One that is too long for a service, or cannot be read, was never on the air.
+fn add_text(rt: &HostRuntime, archive: &mut Vec<FiledText>, path: &str) -> io::Result<()> {
+    if !is_file(rt, path) {
+        return Ok(());
+    }
+    let file = File::open(rt, path)?;
+    if let Ok(text) = read_text(rt.alloc(), &mut Counted::new(file), MOST_BYTES) {
+        archive.push(FiledText::new(rt.alloc(), text)?)?;
+    }
+    Ok(())
+}
+
+// The texts of a folder.
+fn archive_in(rt: &HostRuntime, folder: &str) -> io::Result<Vec<FiledText>> {
+    let mut archive = Vec::new(rt.alloc());
+    for entry in fs::read_dir(rt, folder)? {
+        let entry = entry?;
+        add_text(rt, &mut archive, entry.path().as_str())?;
+    }
+    Ok(archive)
+}
+
+// Puts it on the air by this clock.
+fn replay_by<C: Clock>(rt: &HostRuntime, recording: &Recording<'_>, clock: &C) -> u8 {
+    let mut outputs = Outputs {
+        log: Counted::new(Vec::new(rt.alloc())),
+        packets: Counted::new(io::writer(rt)),
+    };
+    let (log, archive) = (recording.log, recording.archive);
+    let outcome = replay(rt.alloc(), log, clock, archive, &mut outputs);
+    if outputs.log.faults() != 0 {
+        return memory_fault(rt);
+    }
+    let own = outputs.log.into_inner();
+    let is_same = is_same_so_far(own.as_slice(), recording.text.as_bytes());
+    let mut errors = Counted::new(rt.stderr());
+    status_of(
+        rt,
+        commands::replay_air::report(rt.alloc(), &outcome, is_same, &mut errors),
+    )
+}
+
+fn replay_ahead(rt: &HostRuntime, recording: &Recording<'_>, seconds: i32) -> u8 {
+    match begin_of(&recording.log.settings.begin, seconds) {
+        Some(begin) => replay_by(rt, recording, &begin),
+        None => report_refusal(rt, AirRefusal::Time),
+    }
+}
+
+// The same by the rules of the time zone of this name.
+fn replay_zoned(rt: &HostRuntime, recording: &Recording<'_>, name: &str) -> u8 {
+    let zones = match zones_with(rt, name) {
+        Ok(zones) => zones,
+        Err(fault) => return report(rt, &fault),
+    };
+    let Ok(zone) = zones.get(name) else {
+        return report_refusal(rt, AirRefusal::Zone);
+    };
+    match begin_of(&recording.log.settings.begin, 0) {
+        Some(begin) => replay_by(rt, recording, &ZoneClock::new(begin, zone)),
+        None => report_refusal(rt, AirRefusal::Time),
+    }
+}
+
+// Puts on the air again what the log in this text says.
+fn replay_text(rt: &HostRuntime, text: &str, folder: &str) -> Outcome {
+    let log = match read_log(rt.alloc(), text) {
+        Ok(log) => log,
+        Err(fault) => {
+            let mut errors = Counted::new(rt.stderr());
+            return Ok(status_of(
+                rt,
+                commands::replay_air::report_log(rt.alloc(), &fault, &mut errors),
+            ));
+        }
+    };
+    let archive = archive_in(rt, folder)?;
+    let recording = Recording {
+        text,
+        log: &log,
+        archive: archive.as_slice(),
+    };
+    match log.settings.clock {
+        ClockName::Ahead(seconds) => Ok(replay_ahead(rt, &recording, seconds)),
+        ClockName::Zone(name) => Ok(replay_zoned(rt, &recording, name)),
+    }
+}
+
+/// Reads the log and the texts, and puts the service on the air again.
+pub fn replay_air(rt: &HostRuntime, order: &AirReplayOrder<'_>) -> Outcome {
+    if !order.force && rt.stdout().is_terminal() {
+        return Ok(report_refusal(rt, AirRefusal::Terminal));
+    }
+    let file = File::open(rt, order.log)?;
+    let bytes = match read_text(rt.alloc(), &mut Counted::new(file), MOST_LOG) {
+        Ok(bytes) => bytes,
+        Err(TextFault::NoMemory) => return Ok(report(rt, &ToolFault::Files(FilesFault::NoMemory))),
+        Err(_) => return Ok(report(rt, &ToolFault::Files(FilesFault::Read))),
+    };
+    match std::str::from_utf8(bytes.as_slice()) {
+        Ok(text) => replay_text(rt, text, order.texts),
+        Err(_) => {
+            let _ = rt.eprintln("refused: log utf-8");
+            Ok(2)
+        }
+    }
+}

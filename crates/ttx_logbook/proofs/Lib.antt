@@ -1,0 +1,11 @@
+mod CutLaws
+mod CutTexts
+mod EntryLaws
+mod LineLaws
+mod ManyLines
+mod NumberLaws
+mod Powers
+mod ReadLines
+mod SecondLaws
+mod SettingsLaws
+mod WrittenSettings

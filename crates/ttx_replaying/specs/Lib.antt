@@ -1,0 +1,4 @@
+pub mod Comparing
+pub mod Replays
+pub mod ReplayLines
+pub mod Beginnings
