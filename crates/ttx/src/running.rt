@@ -1,5 +1,6 @@
 //! Runs an order: opens what it names, and gives it to its command.
 
+mod air_replays;
 mod airs;
 mod certificates;
 mod counter_runs;
@@ -62,7 +63,7 @@ pub fn run_order(rt: &HostRuntime, order: &Order<'_>) -> Outcome {
         Order::Wait(order) => certificates::wait(rt, order),
         Order::Send(order) => sends::send(rt, order),
         Order::Air(order) => airs::air(rt, order),
-        Order::AirReplay(_) => Ok(3),
+        Order::AirReplay(order) => air_replays::replay_air(rt, order),
         Order::Report(order) => certificates::report_on(rt, order),
         Order::Compose { author, out } => desks::compose(rt, author, out),
         Order::Decompose { service, out } => desks::decompose(rt, service, out),
