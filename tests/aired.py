@@ -1,7 +1,7 @@
 #!/usr/bin/env python3
 """Puts services on the air, changes their texts meanwhile, and compares what `air` writes, byte for byte, and its log, line for line, with a
 plain head-end in this script. The texts that are saved are good ones, with each kind of refusal between two of them. An author's text is
-composed by `compose` first.
+composed by `compose` first. Each airing is then replayed from its log.
 
 usage: aired.py PROGRAM
 
@@ -14,6 +14,7 @@ import fcntl
 import hashlib
 import os
 import re
+import shutil
 import subprocess
 import sys
 import tempfile
@@ -364,6 +365,23 @@ def give(path, text, process):
         file.write(text)
 
 
+def wrong_replay(program, folder, texts, stream):
+    """What is wrong where the log that is in the folder is replayed with these texts; or None."""
+    names = folder / "texts"
+    names.mkdir()
+    for number, text in enumerate(texts):
+        (names / f"{number}.toml").write_bytes(text)
+    run = subprocess.run([program, "air", names.name, "--replay", "log"], cwd=folder, capture_output=True, check=False)
+    (names / "0.toml").unlink()
+    lost = ran(program, folder, "air", names.name, "--replay", "log")
+    shutil.rmtree(names)
+    if (run.returncode, run.stderr) != (0, b"yes\n") or run.stdout != stream:
+        return f"replay: status {run.returncode}, {run.stderr.decode()}, {len(run.stdout)} bytes of {len(stream)}"
+    if texts.count(texts[0]) == 1 and (lost.returncode, lost.stdout, lost.stderr) != (2, "", f"refused: text{mark_of(texts[0])}\n"):
+        return f"replay without the first text: status {lost.returncode}, {lost.stderr}"
+    return None
+
+
 def wrong_air(program, folder, texts, within, late, periods, clock=MIDNIGHT):
     """What is wrong with an airing of these texts, each of which is there when the pipe is opened once more; or None."""
     path = folder / "service.pipe"
@@ -394,7 +412,7 @@ def wrong_air(program, folder, texts, within, late, periods, clock=MIDNIGHT):
     said = different(head_end, got["out"], status, got["err"].decode())
     if said is None and (folder / "log").read_bytes() != got["err"]:
         said = f"the file has another log: {(folder / 'log').read_text()}"
-    return said
+    return said or wrong_replay(program, folder, texts, got["out"])
 
 
 def wrong_file(program, folder, texts, within):
