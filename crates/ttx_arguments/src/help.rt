@@ -632,15 +632,21 @@ Statuses:
 pub(crate) const EXTRACT_MORE: &str =
     "Reads CYCLE to its end. Writes the service to OUT, and then to standard output:
 extracted N pages
+With --partial this line stands among
+  left out MPP WORDS           a page number that is left out; WORDS as below
+  left out M other packets     packets that no service text has, such as X/26
+Without L, OUT is not written, and standard output gets one of
+  lines A to B give a deadline     with these L, find has a deadline
+  no lines give a deadline
 Its pages are those that have a header, except time-filling ones, in the order
 of their first headers, each with what its first transmissions send; often is
 the number of its headers, rounded down to 1, 2, 4 or 8, serial is C11, and the
 packet 8/30 is the first one. What is not sent is blank. Before anything is
-written, the text is read back: it must give exactly this service. The cycle
-does not say how many lines a field has, so give L.
+written, the text is read back: it must give exactly this service.
 
 Statuses:
   0  done
+  1  without L
   2  error: .. (the arguments), refused: same (OUT is CYCLE),
      refused: cycle 2 truncated REST,
      refused: cycle 3 empty, refused: cycle 4 too-long,
@@ -859,8 +865,13 @@ what the clock shows:
 
 TIME, --offset and --zone are as those of send. Without --at it is now.
 
+With --replay, writes the packets that LOG is about once more, from the texts
+that it names. Standard error gets yes, or no 1 log if the log of this is not
+LOG.
+
 Statuses:
-  0  N fields are sent
+  0  N fields are sent; with --replay, yes
+  1  with --replay: no 1 log
   2  error: .. (the arguments), refused: within (neither it nor --replay),
      refused: seconds, refused: time, refused: clocks (--zone and --offset),
      refused: zone (there is no such time zone),
@@ -868,7 +879,8 @@ Statuses:
      refused: terminal (packets would go to a terminal, without --force),
      refused: line .. (as ttx check says it), refused: service too-long,
      refused: plan 1 no-pages, refused: plan 2 too-long,
-     refused: late PAGE F fields of D, .. (pages that are too slow)
+     refused: late PAGE F fields of D, .. (pages that are too slow),
+     refused: log line N, refused: text SHA (LOG, or the folder lacks a text)
   3  fault: file, fault: read, fault: write (also if the reader of a pipe has
      gone), fault: memory";
 

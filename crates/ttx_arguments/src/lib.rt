@@ -26,9 +26,9 @@ pub use laws::{
 };
 pub use moments::Moment;
 pub use orders::{
-    AirOrder, CertifyOrder, CheckOrder, Clock, FindOrder, Look, MonitorOrder, Order, PlanOrder,
-    ReceiverKind, RefuteOrder, ReplayForm, ReplayOrder, ReportOrder, SendOrder, Sending,
-    SpliceOrder, Start, Timing, Tuning, WaitOrder, WordsFault,
+    AirOrder, AirReplayOrder, CertifyOrder, CheckOrder, Clock, FindOrder, Look, MonitorOrder,
+    Order, PlanOrder, ReceiverKind, RefuteOrder, ReplayForm, ReplayOrder, ReportOrder, SendOrder,
+    Sending, SpliceOrder, Start, Timing, Tuning, WaitOrder, WordsFault,
 };
 pub use parsing::words;
 pub use ranges::{Fields, Lines, Offset, Repeat};

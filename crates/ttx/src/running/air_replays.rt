@@ -10,7 +10,7 @@ use ttx_air::Outputs;
 use ttx_archive::FiledText;
 use ttx_arguments::AirReplayOrder;
 use ttx_cycle::{Counted, MOST_BYTES, TextFault, read_text};
-use ttx_files::FilesFault;
+use ttx_files::{FilesFault, TextFile};
 use ttx_logbook::{ClockName, Log, read_log};
 use ttx_moment::ZoneClock;
 use ttx_replaying::{begin_of, is_same_so_far, replay};
@@ -132,7 +132,7 @@ pub fn replay_air(rt: &HostRuntime, order: &AirReplayOrder<'_>) -> Outcome {
     let bytes = match read_text(rt.alloc(), &mut Counted::new(file), MOST_LOG) {
         Ok(bytes) => bytes,
         Err(TextFault::NoMemory) => return Ok(report(rt, &ToolFault::Files(FilesFault::NoMemory))),
-        Err(_) => return Ok(report(rt, &ToolFault::Files(FilesFault::Read))),
+        Err(_) => return Ok(report(rt, &ToolFault::Files(FilesFault::Read { which: TextFile::Service }))),
     };
     match std::str::from_utf8(bytes.as_slice()) {
         Ok(text) => replay_text(rt, text, order.texts),

@@ -17,5 +17,5 @@ pub returns-else-how-clause-bytes : goal.returns-else-how-clause-bytes
 returns-else-how-clause-bytes g c =
     let inputs = c.args.inputs.now in
     subst (λ by. IfSome (g.R.Read.remaining (inner_of c.args.feed.now)) (λ d. TellsFeed
-    (IsTelling by false (slots_of inputs.cycle) inputs.service (fields_of inputs.certificate) c.args.how.start d) c.tell_bytes-2.result))
-    (sym c.if-how.false) c.tell_bytes-2.ensures.bytes
+    (IsTelling by false (slots_of inputs.cycle) inputs.service (fields_of inputs.certificate) c.args.how.start d) c.tell_bytes-else-how.result))
+    (sym c.if-how.false) c.tell_bytes-else-how.ensures.bytes
