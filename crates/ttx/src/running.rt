@@ -63,7 +63,9 @@ pub fn run_order(rt: &HostRuntime, order: &Order<'_>) -> Outcome {
         Order::Wait(order) => certificates::wait(rt, order),
         Order::Send(order) => sends::send(rt, order),
         Order::Air(order) => airs::air(rt, order),
-        Order::AirReplay(order) => air_replays::replay_air(rt, order),
+        Order::AirReplay(order) => {
+            air_replays::replay_air(rt, order.log, order.texts, order.force)
+        }
         Order::Report(order) => certificates::report_on(rt, order),
         Order::Compose { author, out } => desks::compose(rt, author, out),
         Order::Decompose { service, out } => desks::decompose(rt, service, out),

@@ -8,19 +8,18 @@ use std::io::IsTerminal;
 use std::{fs, io};
 use ttx_air::Outputs;
 use ttx_archive::FiledText;
-use ttx_arguments::AirReplayOrder;
 use ttx_cycle::{Counted, MOST_BYTES, TextFault, read_text};
-use ttx_files::{FilesFault, TextFile};
 use ttx_logbook::{ClockName, Log, read_log};
 use ttx_moment::ZoneClock;
 use ttx_replaying::{begin_of, is_same_so_far, replay};
 use ttx_send::Clock;
-use ttx_tool::{AirRefusal, ToolFault, commands};
+use ttx_tool::{AirRefusal, commands};
 
 // The most bytes of a log (1 GiB).
 const MOST_LOG: usize = 1_073_741_824;
 
 // A log with its text, and the texts that were on the air.
+#[derive(Clone, Copy)]
 struct Recording<'a> {
     text: &'a str,
     log: &'a Log<'a>,
@@ -99,6 +98,21 @@ fn replay_zoned(rt: &HostRuntime, recording: &Recording<'_>, name: &str) -> u8 {
     }
 }
 
+// Reports why a log is not read, and returns the status.
+fn unread(rt: &HostRuntime, fault: TextFault) -> u8 {
+    let line = match fault {
+        TextFault::Read => "fault: read",
+        TextFault::TooLong => "refused: log too-long",
+        TextFault::NoMemory => return memory_fault(rt),
+    };
+    let _ = rt.eprintln(line);
+    if matches!(fault, TextFault::Read) {
+        3
+    } else {
+        2
+    }
+}
+
 // Puts on the air again what the log in this text says.
 fn replay_text(rt: &HostRuntime, text: &str, folder: &str) -> Outcome {
     let log = match read_log(rt.alloc(), text) {
@@ -123,19 +137,18 @@ fn replay_text(rt: &HostRuntime, text: &str, folder: &str) -> Outcome {
     }
 }
 
-/// Reads the log and the texts, and puts the service on the air again.
-pub fn replay_air(rt: &HostRuntime, order: &AirReplayOrder<'_>) -> Outcome {
-    if !order.force && rt.stdout().is_terminal() {
+/// Reads the log, and the texts that a folder has, and puts the service on the air again.
+pub fn replay_air(rt: &HostRuntime, log: &str, folder: &str, is_forced: bool) -> Outcome {
+    if !is_forced && rt.stdout().is_terminal() {
         return Ok(report_refusal(rt, AirRefusal::Terminal));
     }
-    let file = File::open(rt, order.log)?;
+    let file = File::open(rt, log)?;
     let bytes = match read_text(rt.alloc(), &mut Counted::new(file), MOST_LOG) {
         Ok(bytes) => bytes,
-        Err(TextFault::NoMemory) => return Ok(report(rt, &ToolFault::Files(FilesFault::NoMemory))),
-        Err(_) => return Ok(report(rt, &ToolFault::Files(FilesFault::Read { which: TextFile::Service }))),
+        Err(fault) => return Ok(unread(rt, fault)),
     };
     match std::str::from_utf8(bytes.as_slice()) {
-        Ok(text) => replay_text(rt, text, order.texts),
+        Ok(text) => replay_text(rt, text, folder),
         Err(_) => {
             let _ = rt.eprintln("refused: log utf-8");
             Ok(2)
