@@ -371,14 +371,15 @@ def wrong_replay(program, folder, texts, stream):
     names.mkdir()
     for number, text in enumerate(texts):
         (names / f"{number}.toml").write_bytes(text)
-    run = subprocess.run([program, "air", names.name, "--replay", "log"], cwd=folder, capture_output=True, check=False)
+    words = [program, "air", names.name, "--replay", "log"]
+    run = subprocess.run(words, cwd=folder, capture_output=True, check=False)
     (names / "0.toml").unlink()
-    lost = ran(program, folder, "air", names.name, "--replay", "log")
+    lost = subprocess.run(words, cwd=folder, capture_output=True, check=False)
     shutil.rmtree(names)
     if (run.returncode, run.stderr) != (0, b"yes\n") or run.stdout != stream:
         return f"replay: status {run.returncode}, {run.stderr.decode()}, {len(run.stdout)} bytes of {len(stream)}"
-    if texts.count(texts[0]) == 1 and (lost.returncode, lost.stdout, lost.stderr) != (2, "", f"refused: text{mark_of(texts[0])}\n"):
-        return f"replay without the first text: status {lost.returncode}, {lost.stderr}"
+    if texts.count(texts[0]) == 1 and (lost.returncode, lost.stdout, lost.stderr) != (2, b"", f"refused: text{mark_of(texts[0])}\n".encode()):
+        return f"replay without the first text: status {lost.returncode}, {lost.stderr.decode()}"
     return None
 
 
