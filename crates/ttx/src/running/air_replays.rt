@@ -3,6 +3,7 @@
 use super::Outcome;
 use super::zones::zones_with;
 use crate::reports::{memory_fault, report, report_refusal, status_of};
+use std::alloc::AllocError;
 use std::fs::File;
 use std::io::IsTerminal;
 use std::{fs, io};
@@ -18,14 +19,6 @@ use ttx_tool::{AirRefusal, commands};
 // The most bytes of a log (1 GiB).
 const MOST_LOG: usize = 1_073_741_824;
 
-// A log with its text, and the texts that were on the air.
-#[derive(Clone, Copy)]
-struct Recording<'a> {
-    text: &'a str,
-    log: &'a Log<'a>,
-    archive: &'a [FiledText],
-}
-
 // Whether there is a file of this name. A pipe or a device might never end.
 fn is_file(rt: &HostRuntime, path: &str) -> bool {
     match fs::metadata(rt, path) {
@@ -40,8 +33,10 @@ fn add_text(rt: &HostRuntime, archive: &mut Vec<FiledText>, path: &str) -> io::R
         return Ok(());
     }
     let file = File::open(rt, path)?;
-    if let Ok(text) = read_text(rt.alloc(), &mut Counted::new(file), MOST_BYTES) {
-        archive.push(FiledText::new(rt.alloc(), text)?)?;
+    match read_text(rt.alloc(), &mut Counted::new(file), MOST_BYTES) {
+        Ok(text) => archive.push(FiledText::new(rt.alloc(), text)?)?,
+        Err(TextFault::NoMemory) => return Err(io::Error::from(AllocError)),
+        Err(TextFault::Read | TextFault::TooLong) => {}
     }
     Ok(())
 }
@@ -56,19 +51,24 @@ fn archive_in(rt: &HostRuntime, folder: &str) -> io::Result<Vec<FiledText>> {
     Ok(archive)
 }
 
-// Puts it on the air by this clock.
-fn replay_by<C: Clock>(rt: &HostRuntime, recording: &Recording<'_>, clock: &C) -> u8 {
+// Puts on the air again what the log in this text says, by this clock.
+fn replay_by<C: Clock>(
+    rt: &HostRuntime,
+    text: &str,
+    log: &Log<'_>,
+    archive: &[FiledText],
+    clock: &C,
+) -> u8 {
     let mut outputs = Outputs {
         log: Counted::new(Vec::new(rt.alloc())),
         packets: Counted::new(io::writer(rt)),
     };
-    let (log, archive) = (recording.log, recording.archive);
     let outcome = replay(rt.alloc(), log, clock, archive, &mut outputs);
     if outputs.log.faults() != 0 {
         return memory_fault(rt);
     }
     let own = outputs.log.into_inner();
-    let is_same = is_same_so_far(own.as_slice(), recording.text.as_bytes());
+    let is_same = is_same_so_far(own.as_slice(), text.as_bytes());
     let mut errors = Counted::new(rt.stderr());
     status_of(
         rt,
@@ -76,15 +76,27 @@ fn replay_by<C: Clock>(rt: &HostRuntime, recording: &Recording<'_>, clock: &C) -
     )
 }
 
-fn replay_ahead(rt: &HostRuntime, recording: &Recording<'_>, seconds: i32) -> u8 {
-    match begin_of(&recording.log.settings.begin, seconds) {
-        Some(begin) => replay_by(rt, recording, &begin),
+fn replay_ahead(
+    rt: &HostRuntime,
+    text: &str,
+    log: &Log<'_>,
+    archive: &[FiledText],
+    seconds: i32,
+) -> u8 {
+    match begin_of(&log.settings.begin, seconds) {
+        Some(begin) => replay_by(rt, text, log, archive, &begin),
         None => report_refusal(rt, AirRefusal::Time),
     }
 }
 
 // The same by the rules of the time zone of this name.
-fn replay_zoned(rt: &HostRuntime, recording: &Recording<'_>, name: &str) -> u8 {
+fn replay_zoned(
+    rt: &HostRuntime,
+    text: &str,
+    log: &Log<'_>,
+    archive: &[FiledText],
+    name: &str,
+) -> u8 {
     let zones = match zones_with(rt, name) {
         Ok(zones) => zones,
         Err(fault) => return report(rt, &fault),
@@ -92,8 +104,8 @@ fn replay_zoned(rt: &HostRuntime, recording: &Recording<'_>, name: &str) -> u8 {
     let Ok(zone) = zones.get(name) else {
         return report_refusal(rt, AirRefusal::Zone);
     };
-    match begin_of(&recording.log.settings.begin, 0) {
-        Some(begin) => replay_by(rt, recording, &ZoneClock::new(begin, zone)),
+    match begin_of(&log.settings.begin, 0) {
+        Some(begin) => replay_by(rt, text, log, archive, &ZoneClock::new(begin, zone)),
         None => report_refusal(rt, AirRefusal::Time),
     }
 }
@@ -126,14 +138,10 @@ fn replay_text(rt: &HostRuntime, text: &str, folder: &str) -> Outcome {
         }
     };
     let archive = archive_in(rt, folder)?;
-    let recording = Recording {
-        text,
-        log: &log,
-        archive: archive.as_slice(),
-    };
+    let texts = archive.as_slice();
     match log.settings.clock {
-        ClockName::Ahead(seconds) => Ok(replay_ahead(rt, &recording, seconds)),
-        ClockName::Zone(name) => Ok(replay_zoned(rt, &recording, name)),
+        ClockName::Ahead(seconds) => Ok(replay_ahead(rt, text, &log, texts, seconds)),
+        ClockName::Zone(name) => Ok(replay_zoned(rt, text, &log, texts, name)),
     }
 }
 
