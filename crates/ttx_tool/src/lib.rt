@@ -17,3 +17,4 @@ pub use ttx_arguments::{Look, Order, ReceiverKind, Tuning, WordsFault, words};
 pub use ttx_broadcast::{BroadcastFault, LogCopy, Outputs, ServiceFile};
 pub use ttx_failure::FailureForm;
 pub use ttx_files::TextFile;
+pub use ttx_replaying::{begin_of, is_same_so_far, replay};

@@ -7,14 +7,12 @@ use std::alloc::AllocError;
 use std::fs::File;
 use std::io::IsTerminal;
 use std::{fs, io};
-use ttx_air::Outputs;
 use ttx_archive::FiledText;
 use ttx_cycle::{Counted, MOST_BYTES, TextFault, read_text};
 use ttx_logbook::{ClockName, Log, read_log};
 use ttx_moment::ZoneClock;
-use ttx_replaying::{begin_of, is_same_so_far, replay};
 use ttx_send::Clock;
-use ttx_tool::{AirRefusal, commands};
+use ttx_tool::{AirRefusal, Outputs, begin_of, commands, is_same_so_far, replay};
 
 // The most bytes of a log (1 GiB).
 const MOST_LOG: usize = 1_073_741_824;
