@@ -7,6 +7,7 @@ use crate::reports::{diagnosed, report, status_of, told};
 use std::fs::File;
 use std::io;
 use ttx_cycle::Counted;
+use ttx_extract::ExtractFault;
 use ttx_kinds::Place;
 use ttx_tool::{ExtractionFault, ToolFault, commands};
 
@@ -65,36 +66,41 @@ pub fn book(rt: &HostRuntime, cycle: &str, out: &str) -> Outcome {
     Ok(told_of(rt, &reader, status))
 }
 
-// The status of an extraction. A refusal has a line of its own.
-fn extraction_status(
-    rt: &HostRuntime,
-    outcome: Result<u8, ExtractionFault>,
-) -> Result<u8, ToolFault> {
-    match outcome {
-        Ok(status) => Ok(status),
-        Err(ExtractionFault::Tool(fault)) => Err(fault),
-        Err(ExtractionFault::Refused(fault)) => {
-            let mut errors = Counted::new(rt.stderr());
-            commands::report_extraction(rt.alloc(), &fault, &mut errors)
-        }
-    }
+// A refusal has a line of its own.
+fn report_refused(rt: &HostRuntime, fault: &ExtractFault) -> Result<u8, ToolFault> {
+    let mut errors = Counted::new(rt.stderr());
+    commands::report_extraction(rt.alloc(), fault, &mut errors)
 }
 
 fn extract_from(
     rt: &HostRuntime,
     reader: &mut RecordedInput,
     lines: u8,
-    partial: bool,
     out: File,
 ) -> Result<u8, ToolFault> {
     let mut file = Counted::new(out);
     let mut writer = Counted::new(io::writer(rt));
-    let outcome = if partial {
-        commands::extract_partly::run(rt.alloc(), reader, lines, &mut file, &mut writer)
-    } else {
-        commands::extract::run(rt.alloc(), reader, lines, &mut file, &mut writer)
-    };
-    extraction_status(rt, outcome)
+    match commands::extract::run(rt.alloc(), reader, lines, &mut file, &mut writer) {
+        Ok(status) => Ok(status),
+        Err(ExtractionFault::Tool(fault)) => Err(fault),
+        Err(ExtractionFault::Refused(fault)) => report_refused(rt, &fault),
+    }
+}
+
+// The same without the pages that no service text can have.
+fn extract_partly_from(
+    rt: &HostRuntime,
+    reader: &mut RecordedInput,
+    lines: u8,
+    out: File,
+) -> Result<u8, ToolFault> {
+    let mut file = Counted::new(out);
+    let mut writer = Counted::new(io::writer(rt));
+    match commands::extract_partly::run(rt.alloc(), reader, lines, &mut file, &mut writer) {
+        Ok(status) => Ok(status),
+        Err(ExtractionFault::Tool(fault)) => Err(fault),
+        Err(ExtractionFault::Refused(fault)) => report_refused(rt, &fault),
+    }
 }
 
 /// Opens the cycle, makes the service's file anew, and writes to it the service that the cycle sends, without the pages that no service text
@@ -108,14 +114,21 @@ pub fn extract(rt: &HostRuntime, cycle: &str, out: &str, lines: u8, partial: boo
         Ok(reader) => reader,
         Err(fault) => return Ok(report(rt, &fault)),
     };
-    let status = status_of(rt, extract_from(rt, &mut reader, lines, partial, file));
-    Ok(told_of(rt, &reader, status))
+    let answer = if partial {
+        extract_partly_from(rt, &mut reader, lines, file)
+    } else {
+        extract_from(rt, &mut reader, lines, file)
+    };
+    Ok(told_of(rt, &reader, status_of(rt, answer)))
 }
 
 fn name_lines(rt: &HostRuntime, reader: &mut RecordedInput) -> Result<u8, ToolFault> {
     let mut writer = Counted::new(io::writer(rt));
-    let outcome = commands::extract_lines::run(rt.alloc(), reader, &mut writer);
-    extraction_status(rt, outcome)
+    match commands::extract_lines::run(rt.alloc(), reader, &mut writer) {
+        Ok(status) => Ok(status),
+        Err(ExtractionFault::Tool(fault)) => Err(fault),
+        Err(ExtractionFault::Refused(fault)) => report_refused(rt, &fault),
+    }
 }
 
 /// Opens the cycle, and names the lines of a field with which its pages have a deadline. No file is made.
