@@ -85,13 +85,7 @@ fn push_item(
     ensures { OnOk result (string_bytes text.new ≡ string_bytes text.old ++ rule.item_record page told) }
 {
     let page = id_text(alloc, page)?;
-    push_own(
-        alloc,
-        text,
-        page.as_str(),
-        item_name(told.item),
-        told.wait,
-    )
+    push_own(alloc, text, page.as_str(), item_name(told.item), told.wait)
 }
 
 // Adds the items of a page.

@@ -67,8 +67,7 @@ fn push_numbers(
 fn within(certificate: &Certificate, gap: usize) -> u64
     ensures { result ≡ rule.at_most (limit (certificate_of certificate.now) + gap) }
 {
-    let slots =
-        u128::from(certificate.deadline()) * u128::from(certificate.lines()) + gap as u128;
+    let slots = u128::from(certificate.deadline()) * u128::from(certificate.lines()) + gap as u128;
     slots.min(u128::from(u64::MAX)) as u64
 }
 
