@@ -63,9 +63,7 @@ pub fn run_order(rt: &HostRuntime, order: &Order<'_>) -> Outcome {
         Order::Wait(order) => certificates::wait(rt, order),
         Order::Send(order) => sends::send(rt, order),
         Order::Air(order) => airs::air(rt, order),
-        Order::AirReplay(order) => {
-            air_replays::replay_air(rt, order.log, order.texts, order.force)
-        }
+        Order::AirReplay(order) => air_replays::replay_air(rt, order),
         Order::Report(order) => certificates::report_on(rt, order),
         Order::Compose { author, out } => desks::compose(rt, author, out),
         Order::Decompose { service, out } => desks::decompose(rt, service, out),
@@ -78,10 +76,7 @@ pub fn run_order(rt: &HostRuntime, order: &Order<'_>) -> Outcome {
             out,
             lines,
             partial,
-        } => match lines {
-            Some(lines) => cycles::extract(rt, cycle, out, lines.count(), *partial),
-            None => cycles::extract_lines(rt, cycle),
-        },
+        } => cycles::extract(rt, cycle, out, lines, *partial),
         Order::Check(order) => services::check(rt, order),
         Order::Version => Ok(status_of(rt, version(rt))),
     }

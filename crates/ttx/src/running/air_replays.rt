@@ -8,6 +8,7 @@ use std::fs::File;
 use std::io::IsTerminal;
 use std::{fs, io};
 use ttx_archive::FiledText;
+use ttx_arguments::AirReplayOrder;
 use ttx_cycle::{Counted, MOST_BYTES, TextFault, read_text};
 use ttx_logbook::{ClockName, Log, read_log};
 use ttx_moment::ZoneClock;
@@ -144,17 +145,17 @@ fn replay_text(rt: &HostRuntime, text: &str, folder: &str) -> Outcome {
 }
 
 /// Reads the log, and the texts that a folder has, and puts the service on the air again.
-pub fn replay_air(rt: &HostRuntime, log: &str, folder: &str, is_forced: bool) -> Outcome {
-    if !is_forced && rt.stdout().is_terminal() {
+pub fn replay_air(rt: &HostRuntime, order: &AirReplayOrder<'_>) -> Outcome {
+    if !order.force && rt.stdout().is_terminal() {
         return Ok(report_refusal(rt, AirRefusal::Terminal));
     }
-    let file = File::open(rt, log)?;
+    let file = File::open(rt, order.log)?;
     let bytes = match read_text(rt.alloc(), &mut Counted::new(file), MOST_LOG) {
         Ok(bytes) => bytes,
         Err(fault) => return Ok(unread(rt, fault)),
     };
     match std::str::from_utf8(bytes.as_slice()) {
-        Ok(text) => replay_text(rt, text, folder),
+        Ok(text) => replay_text(rt, text, order.texts),
         Err(_) => {
             let _ = rt.eprintln("refused: log utf-8");
             Ok(2)

@@ -6,6 +6,7 @@ use crate::devices::{Input, create_out, open_input};
 use crate::reports::{diagnosed, report, status_of, told};
 use std::fs::File;
 use std::io;
+use ttx_arguments::Lines;
 use ttx_cycle::Counted;
 use ttx_extract::ExtractFault;
 use ttx_kinds::Place;
@@ -103,9 +104,9 @@ fn extract_partly_from(
     }
 }
 
-/// Opens the cycle, makes the service's file anew, and writes to it the service that the cycle sends, without the pages that no service text
-/// can have where it is partial.
-pub fn extract(rt: &HostRuntime, cycle: &str, out: &str, lines: u8, partial: bool) -> Outcome {
+// Opens the cycle, makes the service's file anew, and writes to it the service that the cycle sends, with these lines of a field, without the
+// pages that no service text can have where it is partial.
+fn extract_with(rt: &HostRuntime, cycle: &str, out: &str, lines: u8, partial: bool) -> Outcome {
     let cycle = open_input(rt, cycle)?;
     let Some(file) = create_out(rt, &[&cycle], out)? else {
         return Ok(report(rt, &ToolFault::Same));
@@ -131,12 +132,26 @@ fn name_lines(rt: &HostRuntime, reader: &mut RecordedInput) -> Result<u8, ToolFa
     }
 }
 
-/// Opens the cycle, and names the lines of a field with which its pages have a deadline. No file is made.
-pub fn extract_lines(rt: &HostRuntime, cycle: &str) -> Outcome {
+// Opens the cycle, and names the lines of a field with which its pages have a deadline. No file is made.
+fn extract_lines(rt: &HostRuntime, cycle: &str) -> Outcome {
     let mut reader = match recorded(rt, open_input(rt, cycle)?) {
         Ok(reader) => reader,
         Err(fault) => return Ok(report(rt, &fault)),
     };
     let status = status_of(rt, name_lines(rt, &mut reader));
     Ok(told_of(rt, &reader, status))
+}
+
+/// Writes the service that the cycle sends with these lines of a field, or without any, names those with which its pages have a deadline.
+pub fn extract(
+    rt: &HostRuntime,
+    cycle: &str,
+    out: &str,
+    lines: &Option<Lines>,
+    partial: bool,
+) -> Outcome {
+    match lines {
+        Some(lines) => extract_with(rt, cycle, out, lines.count(), partial),
+        None => extract_lines(rt, cycle),
+    }
 }
