@@ -80,8 +80,8 @@ tracks_none lines cursors s f sent free from = record {
 -- what a slot by the rule of turns can be
 abbrev pub IsFrom : Magazines → List Slot → Slot → Type 0
 IsFrom mags before Empty = Unit {0}
-IsFrom mags before (Info bytes) = Unit {0}
-IsFrom mags before (Sent queue packet) = (queue < 8) × (next_of mags queue before ≡ Some packet)
+IsFrom mags before (Info bytes) = mags.info ≡ Some bytes
+IsFrom mags before (Sent queue packet) = (queue < 8) × (next_of mags queue before ≡ Some packet) × (is_ready mags before queue ≡ true)
 
 idle : (lines : ℕ) (cursors : Cursors) (before : List Slot) (slot : Slot) → Tracks lines cursors before →
     ((m : ℕ) → sent_by m (slot ∷ before) ≡ sent_by m before) → ((m : ℕ) → has_header m slot ≡ false) → turn_from (slot ∷ before)
@@ -155,17 +155,17 @@ tracks_more lines mags cursors before (Sent queue packet) t h =
 
 -- what the rule of turns gives
 pub turn_from_queues : (mags : Magazines) (before : List Slot) → IsFrom mags before (slot_after mags before)
-turn_from_queues mags before = by_info mags.info (is_info_due mags.lines (length before))
+turn_from_queues mags before = by_info mags.info (is_info_due mags.lines (length before)) refl
   where
-    by_next : (m : ℕ) (o : Option Packet) → m < 8 → next_of mags m before ≡ o → IsFrom mags before (sending m o)
-    by_next m None lt e = tt
-    by_next m (Some packet) lt e = (lt, e)
+    by_next : (m : ℕ) (o : Option Packet) → m < 8 → next_of mags m before ≡ o → is_ready mags before m ≡ true → IsFrom mags before (sending m o)
+    by_next m None lt e ready = tt
+    by_next m (Some packet) lt e ready = (lt, e, ready)
 
     by_found : (o : Option ℕ) → find (is_ready mags before) (order (turn_from before)) ≡ o → IsFrom mags before (chosen mags before o)
     by_found None e = tt
-    by_found (Some m) e = by_next m (next_of mags m before) ((found_ready (is_ready mags before) (turn_from before) m e).1) refl
+    by_found (Some m) e = let r = found_ready (is_ready mags before) (turn_from before) m e in by_next m (next_of mags m before) r.1 refl r.0
 
-    by_info : (info : Option (List ℕ)) (due : Bool) → IsFrom mags before (or_info info due (next_slot mags before))
-    by_info None due = by_found (find (is_ready mags before) (order (turn_from before))) refl
-    by_info (Some bytes) true = tt
-    by_info (Some bytes) false = by_found (find (is_ready mags before) (order (turn_from before))) refl
+    by_info : (info : Option (List ℕ)) (due : Bool) → mags.info ≡ info → IsFrom mags before (or_info info due (next_slot mags before))
+    by_info None due e = by_found (find (is_ready mags before) (order (turn_from before))) refl
+    by_info (Some bytes) true e = e
+    by_info (Some bytes) false e = by_found (find (is_ready mags before) (order (turn_from before))) refl

@@ -3,7 +3,6 @@ mod PlacedBlocks
 mod SentBlocks
 mod PassedBlocks
 mod Alternating
-mod NextHeaders
 mod LaidSlots
 mod Lengths
 mod FirstInOrder
@@ -14,28 +13,24 @@ mod MagazineSums
 mod CursorsLookBack
 mod UsedQueues
 mod WaitingMagazines
-mod Owners
-mod InQueues
-mod SerialOwners
-mod OwnersByPlace
-mod ListElements
-mod SurePlaces
-mod Readable
-mod AllRead
+mod QueueSlots
+mod PageRests
+mod ReadPackets
+mod ReadSlots
+mod PlannedSlots
 mod UnderHeaders
+mod RepeatedHeaders
 mod OwnRows
-mod PlacesByKind
-mod Planned
+mod PlannedFollowers
+mod WholeBlocks
+pub mod SteadyPages
+mod QueueBlocks
+mod SlotsAfterHeaders
+mod SpacedRows
+mod ListElements
 mod GrowingLists
 mod PlanFaults
-mod HeldBlocks
-mod SendingOrder
-mod PlannedSlots
-mod OwnLinks
-mod SentItems
-pub mod SteadyPages
 mod PlannedAcceptance
-mod PlannedFollowers
 mod PageLinks
 mod SubpageLists
 mod PlacedPages
@@ -47,4 +42,3 @@ mod SpreadPages
 mod SpreadOnce
 mod SpreadPlans
 mod PickedBlocks
-mod WholeBlocks

@@ -1,5 +1,5 @@
 -- What holds for each element of a list.
-use Rattle.std.proofs.Common.{◌≡◌, ℕ, zero, suc, Bool, true, false, cond, List, [], ◌∷◌, ◌++◌, map, replicate, Some, None, refl, sym, subst, inl, inr}
+use Rattle.std.proofs.Common.{◌≡◌, ◌⊎◌, ℕ, zero, suc, Bool, true, false, cond, List, [], ◌∷◌, ◌++◌, map, replicate, Some, None, refl, sym, subst, inl, inr}
 use Rattle.std.specs.Prelude.{slice_get, flat_map, filter}
 use Rattle.std.specs.List.{AllByRecursion}
 use Rattle.std.proofs.lemmas.Bool.{cond-true, cond-false, cases_Bool}
@@ -36,3 +36,22 @@ pub all_get : {A : Type 0} (P : A → Type 0) (xs : List A) (k : ℕ) (x : A) �
 all_get P [] k x a e = let f : None ≡ Some x = e in cc
 all_get P (y ∷ xs) zero x a e = let f : Some y ≡ Some x = e in let g : y ≡ x = cc in subst P g a.0
 all_get P (y ∷ xs) (suc k) x a e = all_get P xs k x a.1 e
+
+-- one of the elements
+abbrev pub Has : {A : Type 0} → A → List A → Type 0
+Has x [] = ⊥
+Has x (y ∷ ys) = (x ≡ y) ⊎ Has x ys
+
+pub has_left : {A : Type 0} (x : A) (xs ys : List A) → Has x xs → Has x (xs ++ ys)
+has_left x [] ys h = absurd h
+has_left x (y ∷ xs) ys (inl e) = inl e
+has_left x (y ∷ xs) ys (inr h) = inr (has_left x xs ys h)
+
+pub has_right : {A : Type 0} (x : A) (xs ys : List A) → Has x ys → Has x (xs ++ ys)
+has_right x [] ys h = h
+has_right x (y ∷ xs) ys h = inr (has_right x xs ys h)
+
+pub all_has : {A : Type 0} (P : A → Type 0) (xs : List A) (x : A) → AllByRecursion P xs → Has x xs → P x
+all_has P [] x a h = absurd h
+all_has P (y ∷ xs) x a (inl e) = subst P (sym e) a.0
+all_has P (y ∷ xs) x a (inr h) = all_has P xs x a.1 h

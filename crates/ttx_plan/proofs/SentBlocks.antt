@@ -82,7 +82,7 @@ any_rounds p blocks a = same_truth (list_any p (rounds_to blocks 8)) (list_any p
     same_truth false true there back = back refl
     same_truth false false there back = refl
 
-any_led : (late : Bool) (before blocks : List Block) (queue : ℕ) → has_pages (with_fillers late before blocks) queue ≡ has_pages blocks queue
+pub any_led : (late : Bool) (before blocks : List Block) (queue : ℕ) → has_pages (with_fillers late before blocks) queue ≡ has_pages blocks queue
 any_led late before [] queue = refl
 any_led late before (b ∷ blocks) queue = ap (λ x. eqb b.queue queue || x) (any_led late (b ∷ before) blocks queue)
 

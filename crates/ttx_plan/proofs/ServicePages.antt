@@ -5,6 +5,7 @@ use Rattle.std.specs.Prelude.{All, slice_get, option_map, sum_by}
 use Rattle.std.specs.List.{AllByRecursion, list_any}
 use Rattle.std.proofs.lemmas.Bool.{eqb-true, or_cases}
 use Rattle.std.proofs.lemmas.List.{map-append, length-map}
+use Rattle.std.proofs.lemmas.Option.{get_or_from_slice_get, slice_get_within}
 use Rattle.std.proofs.lemmas.List.Sums.{sum_by-cons, sum_by-append}
 use Rattle.ttx_page.specs.declared.class.Class.{Class}
 use Rattle.ttx_page.specs.declared.page.Page.{Page as PageValue}
@@ -75,17 +76,21 @@ pub page_at_index : (values : List PageValue) (pages : List Authored) (i often :
     option_map (λ p. p.often) (slice_get pages i) ≡ Some often → slice_get pages i ≡ Some (authored_at (page_of value) often)
 page_at_index = at_index page_of
 
-there : {A : Type 0} (xs : List A) (i : ℕ) (x d : A) → slice_get xs i ≡ Some x → (i < length xs) × (get_or xs i d ≡ x)
-there [] i x d e = let f : None ≡ Some x = e in cc
-there (y ∷ xs) zero x d e = let f : Some y ≡ Some x = e in let g : y ≡ x = cc in (omega arith, g)
-there (y ∷ xs) (suc i) x d e = let r = there xs i x d e in (omega (arith, r.0), r.1)
+pub authored_is : (serial : Bool) (pages : List Authored) → All (IsAuthored serial) pages → (i : ℕ) (authored : Authored) →
+    slice_get pages i ≡ Some authored → IsAuthored serial authored
+authored_is serial pages a i authored e =
+    subst (IsAuthored serial) (get_or_from_slice_get pages i authored authored e) (a i authored (slice_get_within pages i authored e))
+
+-- the page at an index of the service
+pub page_there : (pages : List Authored) (n : ℕ) (p : Page) → slice_get (map (λ authored. authored.page) pages) n ≡ Some p →
+    (authored : Authored) × (slice_get pages n ≡ Some authored) × (authored.page ≡ p)
+page_there [] n p e = let f : None ≡ Some p = e in cc
+page_there (a ∷ pages) zero p e = let f : Some a.page ≡ Some p = e in let g : a.page ≡ p = cc in (a, refl, g)
+page_there (a ∷ pages) (suc n) p e = page_there pages n p e
 
 pub often_at : (serial : Bool) (pages : List Authored) (i : ℕ) (page : Authored) → All (IsAuthored serial) pages → slice_get pages i
     ≡ Some page → IsOften page.often
-often_at serial pages i page a e =
-    let r = there pages i page page e in
-    let one : IsAuthored serial page = subst (IsAuthored serial) r.1 (a i page r.0) in
-    often_ranges page.often one.often
+often_at serial pages i page a e = often_ranges page.often (authored_is serial pages a i page e).often
 
 pub often_there : (serial : Bool) (pages : List Authored) (i often : ℕ) → All (IsAuthored serial) pages →
     option_map (λ p. p.often) (slice_get pages i) ≡ Some often → IsOften often
