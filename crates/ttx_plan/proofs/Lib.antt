@@ -7,6 +7,7 @@ mod LaidSlots
 mod Lengths
 mod FirstInOrder
 mod SchedulerState
+mod OftenNumbers
 mod ServicePages
 mod RepeatedBlocks
 mod MagazineSums

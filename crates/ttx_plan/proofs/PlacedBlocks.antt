@@ -7,6 +7,7 @@ use Rattle.std.proofs.lemmas.Bool.{cond-true, cond-false, cases_Bool, eq-eqb}
 use Rattle.std.proofs.lemmas.List.Sums.{sum_by-cons}
 use Rattle.ttx_plan.specs.Blocks.{Block, at_place, placed, round_of, rounds_to}
 use Rattle.ttx_plan.specs.Ranges.{IsOften}
+use Rattle.ttx_plan.proofs.OftenNumbers.{period_range}
 
 -- a block whose place is in range
 pub record IsInRounds (block : Block) : Type 0 where
@@ -111,21 +112,9 @@ in_rounds blocks (suc n) r k block lt due e = elim (last_or_before r n lt) as
           in (f.0, get_left (rounds_to blocks n) (round_of blocks n) f.0 block f.1)
     ]
 
-below_eight : (often place : ℕ) → IsOften often → place < 8 / often → place < 8
-below_eight zero place o lt = absurd (omega (arith, o.some))
-below_eight (suc zero) place o lt = lt
-below_eight (suc (suc zero)) place o lt = let l : place < 4 = lt in omega arith
-below_eight (suc (suc (suc zero))) place o lt = let l : place < 2 = lt in omega arith
-below_eight (suc (suc (suc (suc zero)))) place o lt = let l : place < 2 = lt in omega arith
-below_eight (suc (suc (suc (suc (suc zero))))) place o lt = let l : place < 1 = lt in omega arith
-below_eight (suc (suc (suc (suc (suc (suc zero)))))) place o lt = let l : place < 1 = lt in omega arith
-below_eight (suc (suc (suc (suc (suc (suc (suc zero))))))) place o lt = let l : place < 1 = lt in omega arith
-below_eight (suc (suc (suc (suc (suc (suc (suc (suc zero)))))))) place o lt = let l : place < 1 = lt in omega arith
-below_eight (suc (suc (suc (suc (suc (suc (suc (suc (suc n))))))))) place o lt = absurd (omega (arith, o.most))
-
 pub in_its_round : (blocks : List Block) (k : ℕ) (block : Block) → IsInRounds block → slice_get blocks k ≡ Some block → (j : ℕ)
     × (slice_get (rounds_to blocks 8) j ≡ Some block)
-in_its_round blocks k block r e = in_rounds blocks 8 block.place k block (below_eight block.often block.place r.often r.place)
+in_its_round blocks k block r e = in_rounds blocks 8 block.place k block (omega (arith, r.place, (period_range block.often r.often).1))
     (eq-eqb (block.place % (8 / block.often)) block.place (mod-eq_of_lt r.place)) e
 
 -- one of the blocks that are sent comes from one of the blocks

@@ -11,7 +11,8 @@ use Rattle.ttx_plan.specs.Blocks.{Block, at_place, placed}
 use Rattle.ttx_plan.specs.Carries.{block_at, blocks_of}
 use Rattle.ttx_plan.specs.Ranges.{IsOften}
 use Rattle.ttx_plan.proofs.PlacedBlocks.{placed_all}
-use Rattle.ttx_plan.proofs.ServicePages.{often_ranges}
+use Rattle.ttx_plan.proofs.OftenNumbers.{often_ranges}
+use Rattle.ttx_plan.proofs.ServicePages.{often_at}
 
 -- a block by its index, at the place that the list has for it
 placed_at : (places : List ℕ) (blocks : List Block) (k : ℕ) (block : Block) → slice_get blocks k ≡ Some block →
@@ -53,8 +54,7 @@ often_each : (class : Class) (serial : Bool) (pages : List Authored) → All (Is
     AllByRecursion (λ (b : Block). IsOften b.often) (blocks_of class pages)
 often_each class serial [] a = tt
 often_each class serial (p ∷ pages) a =
-    let first : IsAuthored serial p = a 0 p (omega arith) in
-    (often_ranges p.often first.often, often_each class serial pages (λ k d lt. a (suc k) d (omega (arith, lt))))
+    (often_ranges p.often (a 0 p (omega arith)).often, often_each class serial pages (λ k d lt. a (suc k) d (omega (arith, lt))))
 
 pub blocks_often : (class : Class) (serial : Bool) (places : List ℕ) (pages : List Authored) → All (IsAuthored serial) pages →
     AllByRecursion (λ (b : Block). IsOften b.often) (placed places (blocks_of class pages))
@@ -71,10 +71,4 @@ blocks_size class places pages = placed_size places (blocks_of class pages) ∙ 
 
 pub each_often : (serial : Bool) (pages : List Authored) → All (IsAuthored serial) pages → (k : ℕ) (p : Authored) → slice_get pages k ≡ Some p →
     IsOften p.often
-each_often serial [] a k p e = let f : None ≡ Some p = e in cc
-each_often serial (q ∷ pages) a zero p e =
-    let f : Some q ≡ Some p = e in
-    let is : q ≡ p = cc in
-    let first : IsAuthored serial q = a 0 q (omega arith) in
-    subst (λ (x : Authored). IsOften x.often) is (often_ranges q.often first.often)
-each_often serial (q ∷ pages) a (suc k) p e = each_often serial pages (λ i d lt. a (suc i) d (omega (arith, lt))) k p e
+each_often serial pages a k p e = often_at serial pages k p a e

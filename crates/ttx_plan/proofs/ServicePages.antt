@@ -1,11 +1,11 @@
 -- The pages of a service one by one: their blocks, how often they are sent, and the queues that they use.
 use Rattle.std.proofs.Common.{◌≡◌, ℕ, zero, suc, ◌+◌, ◌-◌, ◌*◌, ◌<◌, ◌≤◌, Bool, true, cond, List, [], ◌∷◌, ◌++◌, ◌||◌, map, length, take}
-use Rattle.std.proofs.Common.{Some, None, refl, sym, ap, ◌∙◌, subst, arith, inl, inr, eqb, get_or, mul-le-mul}
+use Rattle.std.proofs.Common.{Option, Some, None, refl, sym, ap, ◌∙◌, subst, arith, inl, inr, eqb, get_or, mul-le-mul}
 use Rattle.std.specs.Prelude.{All, slice_get, option_map, sum_by}
 use Rattle.std.specs.List.{AllByRecursion, list_any}
 use Rattle.std.proofs.lemmas.Bool.{eqb-true, or_cases}
-use Rattle.std.proofs.lemmas.List.{map-append, length-map}
-use Rattle.std.proofs.lemmas.Option.{get_or_from_slice_get, slice_get_within}
+use Rattle.std.proofs.lemmas.List.{map-append, length-map, length-take-le}
+use Rattle.std.proofs.lemmas.Option.{get_or_from_slice_get, slice_get_within, slice_get-map, slice_get_read, same_Some}
 use Rattle.std.proofs.lemmas.List.Sums.{sum_by-cons, sum_by-append}
 use Rattle.ttx_page.specs.declared.class.Class.{Class}
 use Rattle.ttx_page.specs.declared.page.Page.{Page as PageValue}
@@ -17,64 +17,38 @@ use Rattle.ttx_plan.specs.Blocks.{Block, at_place, placed, has_pages, used_to}
 use Rattle.ttx_plan.specs.Carries.{block_at, blocks_of}
 use Rattle.ttx_plan.specs.Ranges.{ArePlaces, IsOften}
 use Rattle.ttx_plan.specs.Seen.{used_by}
-use Rattle.ttx_plan.proofs.PlacedBlocks.{IsInRounds, placed_any, placed_next}
-
-once : IsOften 1
-once = record { some = omega arith; most = omega arith; divides = refl }
-
-twice : IsOften 2
-twice = record { some = omega arith; most = omega arith; divides = refl }
-
-four_times : IsOften 4
-four_times = record { some = omega arith; most = omega arith; divides = refl }
-
-eight_times : IsOften 8
-eight_times = record { some = omega arith; most = omega arith; divides = refl }
-
-often_one : (n m : ℕ) → IsOften m → eqb n m ≡ true → IsOften n
-often_one n m o e = subst IsOften (sym (eqb-true n m e)) o
-
-pub often_ranges : (n : ℕ) → is_often n ≡ true → IsOften n
-often_ranges n e = elim (or_cases ((eqb n 1 || eqb n 2) || eqb n 4) (eqb n 8) e) as (λ _. IsOften n) [
-  | inl a ↦ elim (or_cases (eqb n 1 || eqb n 2) (eqb n 4) a) as (λ _. IsOften n) [
-    | inl b ↦ elim (or_cases (eqb n 1) (eqb n 2) b) as (λ _. IsOften n) [
-      | inl x ↦ often_one n 1 once x
-      | inr x ↦ often_one n 2 twice x
-    ]
-    | inr x ↦ often_one n 4 four_times x
-  ]
-  | inr x ↦ often_one n 8 eight_times x
-]
-
-pub get_there : {A : Type 0} (xs : List A) (i : ℕ) (x d : A) → i < length xs → x ≡ get_or xs i d → slice_get xs i ≡ Some x
-get_there [] i x d lt e = absurd (omega arith)
-get_there (y ∷ xs) zero x d lt e = ap Some (sym e)
-get_there (y ∷ xs) (suc i) x d lt e = get_there xs i x d (omega arith) e
+use Rattle.ttx_plan.proofs.OftenNumbers.{often_ranges}
+use Rattle.ttx_plan.proofs.PlacedBlocks.{IsInRounds, placed_any, placed_none, placed_next}
 
 -- the page at an index of a list, as a function shows it
-at_index : {A : Type 0} (view : A → Page) (values : List A) (pages : List Authored) (i often : ℕ) (value : A) → map view values
-    ≡ map (λ p. p.page) pages → slice_get values i ≡ Some value →
-    option_map (λ p. p.often) (slice_get pages i) ≡ Some often → slice_get pages i ≡ Some (authored_at (view value) often)
-at_index view [] pages i often value same v o = let e : None ≡ Some value = v in cc
-at_index view (x ∷ values) [] i often value same v o = let e : None ≡ Some often = o in cc
-at_index view (x ∷ values) (p ∷ pages) zero often value same v o =
-    let first : Some x ≡ Some value = v in
-    let times : Some p.often ≡ Some often = o in
-    let is : x ≡ value = cc in
-    let so_often : p.often ≡ often = cc in
-    let e : view x ∷ map view values ≡ p.page ∷ map (λ p. p.page) pages = same in
-    let page : view x ≡ p.page = cc in
-    ap (λ q. Some (authored_at q p.often)) (sym page) ∙ ap (λ q. Some (authored_at (view q) p.often)) is
-    ∙ ap (λ n. Some (authored_at (view value) n)) so_often
-at_index view (x ∷ values) (p ∷ pages) (suc i) often value same v o =
-    let e : view x ∷ map view values ≡ p.page ∷ map (λ p. p.page) pages = same in
-    let rest : map view values ≡ map (λ p. p.page) pages = cc in
-    at_index view values pages i often value rest v o
+page_shown : (values : List PageValue) (pages : List Authored) (i : ℕ) (value : PageValue) → map page_of values ≡ map (λ p. p.page) pages →
+    i < length values → value ≡ get_or values i value → option_map (λ p. p.page) (slice_get pages i) ≡ Some (page_of value)
+page_shown values pages i value same lt read = sym (slice_get-map (λ (p : Authored). p.page) pages i) ∙ ap (λ xs. slice_get xs i) (sym same)
+    ∙ slice_get-map page_of values i ∙ ap (option_map page_of) (slice_get_read values (length values) i value refl lt read)
 
 pub page_at_index : (values : List PageValue) (pages : List Authored) (i often : ℕ) (value : PageValue) → map page_of values
-    ≡ map (λ p. p.page) pages → slice_get values i ≡ Some value →
+    ≡ map (λ p. p.page) pages → i < length values → value ≡ get_or values i value →
     option_map (λ p. p.often) (slice_get pages i) ≡ Some often → slice_get pages i ≡ Some (authored_at (page_of value) often)
-page_at_index = at_index page_of
+page_at_index values pages i often value same lt read o = by (slice_get pages i) (page_shown values pages i value same lt read) o
+  where
+    by : (page : Option Authored) → option_map (λ p. p.page) page ≡ Some (page_of value) → option_map (λ p. p.often) page ≡ Some often →
+        page ≡ Some (authored_at (page_of value) often)
+    by None e f = cc
+    by (Some p) e f =
+        let page : p.page ≡ page_of value = same_Some p.page (page_of value) e in
+        let times : p.often ≡ often = same_Some p.often often f in
+        ap (λ x. Some (authored_at x p.often)) page ∙ ap (λ n. Some (authored_at (page_of value) n)) times
+
+-- and its id
+pub id_there : (values : List PageValue) (pages : List Authored) (i : ℕ) (value : PageValue) → map page_of values
+    ≡ map (λ p. p.page) pages → i < length values → value ≡ get_or values i value →
+    option_map (λ (p : Authored). p.page.id) (slice_get pages i) ≡ Some (page_of value).id
+id_there values pages i value same lt read = by (slice_get pages i) (page_shown values pages i value same lt read)
+  where
+    by : (page : Option Authored) → option_map (λ p. p.page) page ≡ Some (page_of value) →
+        option_map (λ (p : Authored). p.page.id) page ≡ Some (page_of value).id
+    by None e = cc
+    by (Some p) e = ap (option_map (λ (q : Page). q.id)) e
 
 pub authored_is : (serial : Bool) (pages : List Authored) → All (IsAuthored serial) pages → (i : ℕ) (authored : Authored) →
     slice_get pages i ≡ Some authored → IsAuthored serial authored
@@ -92,30 +66,27 @@ pub often_at : (serial : Bool) (pages : List Authored) (i : ℕ) (page : Authore
     ≡ Some page → IsOften page.often
 often_at serial pages i page a e = often_ranges page.often (authored_is serial pages a i page e).often
 
+pub listed_page : (page : Option Authored) (often : ℕ) → option_map (λ (p : Authored). p.often) page ≡ Some often → (p : Authored)
+    × ((page ≡ Some p) × (p.often ≡ often))
+listed_page None often e = let f : None ≡ Some often = e in cc
+listed_page (Some p) often e = let f : Some p.often ≡ Some often = e in (p, (refl, cc))
+
 pub often_there : (serial : Bool) (pages : List Authored) (i often : ℕ) → All (IsAuthored serial) pages →
     option_map (λ p. p.often) (slice_get pages i) ≡ Some often → IsOften often
-often_there serial [] i often a e = let f : None ≡ Some often = e in cc
-often_there serial (p ∷ pages) zero often a e =
-    let f : Some p.often ≡ Some often = e in
-    let g : p.often ≡ often = cc in
-    let first : IsAuthored serial p = a 0 p (omega arith) in
-    subst IsOften g (often_ranges p.often first.often)
-often_there serial (p ∷ pages) (suc i) often a e = often_there serial pages i often (λ k d lt. a (suc k) d (omega arith)) e
+often_there serial pages i often a e =
+    let p = listed_page (slice_get pages i) often e in subst IsOften p.1.1 (often_at serial pages i p.0 a p.1.0)
 
 pub blocks_in_rounds : (class : Class) (serial : Bool) (spread : List ℕ) (pages : List Authored) → All (IsAuthored serial) pages →
     ArePlaces spread pages → AllByRecursion IsInRounds (placed spread (blocks_of class pages))
-blocks_in_rounds class serial [] [] a range = tt
-blocks_in_rounds class serial [] (p ∷ pages) a range =
-    let first : IsAuthored serial p = a 0 p (omega arith) in (
-      record { often = often_ranges p.often first.often; place = range 0 p refl },
-      blocks_in_rounds class serial [] pages (λ k d lt. a (suc k) d (omega arith)) (λ i q e. range (suc i) q e),
-    )
-blocks_in_rounds class serial (place ∷ spread) [] a range = tt
-blocks_in_rounds class serial (place ∷ spread) (p ∷ pages) a range =
-    let first : IsAuthored serial p = a 0 p (omega arith) in (
-      record { often = often_ranges p.often first.often; place = range 0 p refl },
-      blocks_in_rounds class serial spread pages (λ k d lt. a (suc k) d (omega arith)) (λ i q e. range (suc i) q e),
-    )
+blocks_in_rounds class serial spread [] a range = subst (AllByRecursion IsInRounds) (placed_none spread) tt
+blocks_in_rounds class serial [] (p ∷ pages) a range = (
+  record { often = often_ranges p.often (a 0 p (omega arith)).often; place = range 0 p refl },
+  blocks_in_rounds class serial [] pages (λ k d lt. a (suc k) d (omega arith)) (λ i q e. range (suc i) q e),
+)
+blocks_in_rounds class serial (place ∷ spread) (p ∷ pages) a range = (
+  record { often = often_ranges p.often (a 0 p (omega arith)).often; place = range 0 p refl },
+  blocks_in_rounds class serial spread pages (λ k d lt. a (suc k) d (omega arith)) (λ i q e. range (suc i) q e),
+)
 
 -- one more page
 pub take_next : {A : Type 0} (xs : List A) (n : ℕ) (x : A) → slice_get xs n ≡ Some x → take (suc n) xs ≡ take n xs ++ x ∷ []
@@ -137,12 +108,7 @@ pub placed_blocks_next : (spread : List ℕ) (class : Class) (pages : List Autho
 placed_blocks_next spread class pages i page e =
     ap (placed spread) (blocks_next class pages i page e) ∙ placed_next spread (blocks_of class (take i pages)) (block_at class page)
     ∙ ap (λ n. placed spread (blocks_of class (take i pages)) ++ at_place (get_or spread n 0) (block_at class page) ∷ [])
-    (length-map (take i pages) (block_at class) ∙ taken pages i page e)
-  where
-    taken : {A : Type 0} (xs : List A) (n : ℕ) (x : A) → slice_get xs n ≡ Some x → length (take n xs) ≡ n
-    taken [] n x h = let e : None ≡ Some x = h in cc
-    taken (y ∷ ys) zero x h = refl
-    taken (y ∷ ys) (suc n) x h = ap suc (taken ys n x h)
+    (length-map (take i pages) (block_at class) ∙ length-take-le i pages (omega (arith, slice_get_within pages i page e)))
 
 pub sum_next : (f : Block → ℕ) (class : Class) (pages : List Authored) (i : ℕ) (page : Authored) → slice_get pages i ≡ Some page →
     sum_by f (blocks_of class (take (i + 1) pages)) ≡ sum_by f (blocks_of class (take i pages)) + f (block_at class page)

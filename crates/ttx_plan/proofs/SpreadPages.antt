@@ -14,7 +14,7 @@ use Rattle.ttx_plan.specs.Ranges.{ArePlaces, IsOften}
 use Rattle.ttx_plan.specs.Spread.{IsFirstLeast, IsSpread, burden_so_far, packets_so_far}
 use Rattle.ttx_plan.specs.SubpageTurns.{burden}
 use Rattle.ttx_plan.specs.Spreading.{AreCounted, IsSpreadTo}
-use Rattle.ttx_plan.proofs.SpreadPasses.{period_range}
+use Rattle.ttx_plan.proofs.OftenNumbers.{period_range}
 use Rattle.ttx_plan.proofs.PlacedPages.{page_block, page_placed}
 use Rattle.ttx_plan.proofs.SpreadPlaces.{weight, first_least_same, spread_more, counted_more, spread_else, counted_else}
 
@@ -23,11 +23,6 @@ pub spread_in_range : (class : Class) (places : List ℕ) (pages : List Authored
 spread_in_range class places pages spread = λ i page e. (spread i page e).within
 
 -- one more page
-
-pub listed_page : (page : Option Authored) (often : ℕ) → option_map (λ (p : Authored). p.often) page ≡ Some often → (p : Authored)
-    × ((page ≡ Some p) × (p.often ≡ often))
-listed_page None often e = let f : None ≡ Some often = e in cc
-listed_page (Some p) often e = let f : Some p.often ≡ Some often = e in (p, (refl, cc))
 
 -- the page at the index takes its place
 pub page_spread : (class : Class) (places : List ℕ) (pages : List Authored) (n often place : ℕ) (burdens packets : List ℕ) (page : Authored) →

@@ -20,33 +20,6 @@ listed_at [] i lt = absurd (omega (arith, lt))
 listed_at (x ∷ xs) zero lt = (x, refl)
 listed_at (x ∷ xs) (suc i) lt = listed_at xs i (omega (arith, lt))
 
--- the id of the page at an index, as a function shows it
-id_in : {A : Type 0} (view : A → Page) (values : List A) (pages : List Authored) (i : ℕ) (value : A) → map view values
-    ≡ map (λ p. p.page) pages → slice_get values i ≡ Some value → i < length pages →
-    option_map (λ (p : Authored). p.page.id) (slice_get pages i) ≡ Some (view value).id
-id_in view [] pages i value same v lt = let e : None ≡ Some value = v in cc
-id_in view (x ∷ values) [] i value same v lt = absurd (omega (arith, lt))
-id_in view (x ∷ values) (p ∷ pages) zero value same v lt =
-    let first : Some x ≡ Some value = v in
-    let is : x ≡ value = cc in
-    let e : view x ∷ map view values ≡ p.page ∷ map (λ p. p.page) pages = same in
-    let page : view x ≡ p.page = cc in
-    ap (λ (q : Page). Some q.id) (sym page) ∙ ap (λ z. Some (view z).id) is
-id_in view (x ∷ values) (p ∷ pages) (suc i) value same v lt =
-    let e : view x ∷ map view values ≡ p.page ∷ map (λ p. p.page) pages = same in
-    let rest : map view values ≡ map (λ p. p.page) pages = cc in
-    id_in view values pages i value rest v (omega (arith, lt))
-
-pub id_there : (values : List PageValue) (pages : List Authored) (i : ℕ) (value : PageValue) → map page_of values
-    ≡ map (λ p. p.page) pages → slice_get values i ≡ Some value → i < length pages →
-    option_map (λ (p : Authored). p.page.id) (slice_get pages i) ≡ Some (page_of value).id
-id_there values pages i value same v lt = id_in page_of values pages i value same v lt
-
--- what a function shows of a listed page
-pub shown_of : {B : Type 0} (f : Authored → B) (page : Option Authored) (p : Authored) (value : B) → option_map f page ≡ Some value →
-    page ≡ Some p → f p ≡ value
-shown_of f page p value shown is = let e : Some (f p) ≡ Some value = ap (option_map f) (sym is) ∙ shown in cc
-
 -- one more element
 pub count_next : {A : Type 0} (test : A → Bool) (xs : List A) (i : ℕ) (x : A) → slice_get xs i ≡ Some x →
     count_by test (take (i + 1) xs) ≡ count_by test (take i xs) + cond (test x) 1 0

@@ -6,7 +6,7 @@ use Rattle.ttx_plan.specs.Carries.{block_at, blocks_of}
 use Rattle.ttx_plan.specs.Seen.{fillers_in}
 use Rattle.ttx_plan.proofs.PassedBlocks.{KeepsLatest, count_then, keeps_then, list_else}
 use Rattle.ttx_plan.proofs.PlacedBlocks.{round_starts}
-use Rattle.ttx_plan.proofs.ServicePages.{get_there, page_at_index, placed_blocks_next}
+use Rattle.ttx_plan.proofs.ServicePages.{page_at_index, placed_blocks_next}
 use Rattle.ttx_plan.proofs.bounds.count_fillers.Goals as goal
 use Rattle.ttx_plan.proofs.bounds.count_fillers.Goals.{then-round-times+then-pass, then-round-times+else-pass, else-round-times}
 
@@ -18,10 +18,8 @@ loop-index-preserved c =
     let some = placed c.args.places.now (blocks_of c.args.receivers.class (take c.loop-index.index c.args.service.now.pages)) in
     let round = c.loop-round.round in
     let latest = c.loop-index.fillers.latest in
-    let value = get_there c.pages-pages.result.now c.loop-index.index c.index-pages-index.result c.index-pages-index.result
-    (omega arith) c.index-pages-index.is in
     let page = page_at_index c.pages-pages.result.now c.args.service.now.pages c.loop-index.index c.times.result
-    c.index-pages-index.result c.pages-pages.ensures.value value c.times.ensures.value in
+    c.index-pages-index.result c.pages-pages.ensures.value (omega arith) c.index-pages-index.is c.times.ensures.value in
     let authored = authored_at (page_of c.index-pages-index.result) c.times.result in
     let block = at_place (get_or c.args.places.now c.loop-index.index 0) (block_at c.args.receivers.class authored) in
     let more = placed_blocks_next c.args.places.now c.args.receivers.class c.args.service.now.pages c.loop-index.index authored page in

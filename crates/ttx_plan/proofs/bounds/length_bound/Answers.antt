@@ -5,7 +5,7 @@ use Rattle.ttx_source.specs.Services.{authored_at}
 use Rattle.ttx_plan.specs.Blocks.{Block, placed, packets_in, rounds_to, used_queues}
 use Rattle.ttx_plan.specs.Carries.{blocks_of, blocks_sent_at}
 use Rattle.ttx_plan.specs.Ranges.{IsOften}
-use Rattle.ttx_plan.proofs.ServicePages.{get_there, page_at_index, blocks_in_rounds, sum_next, used_same, same_lengths, product_most}
+use Rattle.ttx_plan.proofs.ServicePages.{page_at_index, blocks_in_rounds, sum_next, used_same, same_lengths, product_most}
 use Rattle.ttx_plan.proofs.PlacedBlocks.{placed_sum}
 use Rattle.ttx_plan.proofs.ServicePages.{same_used_by}
 use Rattle.ttx_plan.proofs.SentBlocks.{led_length, led_packets, same_used}
@@ -15,10 +15,8 @@ use Rattle.ttx_plan.proofs.bounds.length_bound.Goals as goal
 pub loop-index-preserved : goal.loop-index-preserved
 loop-index-preserved c =
     let often = c.times-often.result in
-    let value = get_there c.pages-pages.result.now c.loop-index.index c.index-pages-index.result c.index-pages-index.result
-    (omega arith) c.index-pages-index.is in
     let page = page_at_index c.pages-pages.result.now c.args.service.now.pages c.loop-index.index c.times-often.result
-    c.index-pages-index.result c.pages-pages.ensures.value value c.times-often.ensures.value in
+    c.index-pages-index.result c.pages-pages.ensures.value (omega arith) c.index-pages-index.is c.times-often.ensures.value in
     let authored = authored_at (page_of c.index-pages-index.result) c.times-often.result in
     let is : IsOften c.times-often.result = c.times-often.ensures.is in
     let counted = sum_next (λ (b : Block). b.often) c.args.receivers.class c.args.service.now.pages c.loop-index.index authored page in

@@ -5,9 +5,9 @@ use Rattle.ttx_source.specs.Services.{authored_at}
 use Rattle.ttx_plan.specs.Blocks.{placed}
 use Rattle.ttx_plan.specs.Carries.{blocks_of}
 use Rattle.ttx_plan.specs.Spreading.{AreCounted, IsSpreadTo}
-use Rattle.ttx_plan.proofs.ServicePages.{get_there, page_at_index}
-use Rattle.ttx_plan.proofs.SpreadPages.{listed_page, page_spread, page_counted, page_passed, added_most, small_set}
-use Rattle.ttx_plan.proofs.SpreadPasses.{period_range}
+use Rattle.ttx_plan.proofs.ServicePages.{listed_page, page_at_index}
+use Rattle.ttx_plan.proofs.SpreadPages.{page_spread, page_counted, page_passed, added_most, small_set}
+use Rattle.ttx_plan.proofs.OftenNumbers.{period_range}
 use Rattle.ttx_plan.proofs.spread.place_pages.Goals as goal
 use Rattle.ttx_plan.proofs.spread.place_pages.Goals.{then-times-often, else-times-often}
 
@@ -20,10 +20,8 @@ loop-index-preserved c =
     omega (arith, c.loop-index.invariant.enough, c.pages-pages.ensures.count, c.loop-index-test.true) in
     elim c.if-times-often.branch [
       | then-times-often w ↦
-          let value = get_there c.pages-pages.result.now c.loop-index.index w.index-pages-index.result w.index-pages-index.result
-          (omega (arith, c.loop-index-test.true)) w.index-pages-index.is in
           let page = page_at_index c.pages-pages.result.now c.args.service.now.pages c.loop-index.index c.times.result
-          w.index-pages-index.result c.pages-pages.ensures.value value c.times.ensures.value in
+          w.index-pages-index.result c.pages-pages.ensures.value (omega (arith, c.loop-index-test.true)) w.index-pages-index.is c.times.ensures.value in
           let authored = authored_at (page_of w.index-pages-index.result) c.times.result in
           record {
             enough = omega (arith, c.loop-index.invariant.enough, c.if-times-often.auto.places);

@@ -4,9 +4,10 @@ use Rattle.ttx_plan.specs.Carries.{blocks_of}
 use Rattle.ttx_plan.specs.Ranges.{IsOften}
 use Rattle.ttx_plan.specs.Spreading.{IsSpreadTo}
 use Rattle.ttx_plan.proofs.PlacedPages.{blocks_often, blocks_size, each_often}
+use Rattle.ttx_plan.proofs.OftenNumbers.{half_again}
 use Rattle.ttx_plan.proofs.SpreadPages.{spread_in_range}
 use Rattle.ttx_plan.proofs.SubpageLists.{zero_each}
-use Rattle.ttx_plan.proofs.SpreadPasses.{counted_pass, counted_start, half_again, spread_end, spread_pass, spread_start}
+use Rattle.ttx_plan.proofs.SpreadPasses.{counted_pass, counted_start, spread_end, spread_pass, spread_start}
 use Rattle.ttx_plan.proofs.spread.spread_places.Goals as goal
 
 pub loop-often-init : goal.loop-often-init
