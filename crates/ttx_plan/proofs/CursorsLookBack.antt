@@ -5,7 +5,7 @@ use Rattle.std.specs.Prelude.{slice_get, Vec}
 use Rattle.std.specs.List.{list_any, find}
 use Rattle.std.specs.declared.alloc.Global.{Global}
 use Rattle.std.proofs.Math.ListN.{length-set}
-use Rattle.std.proofs.lemmas.Bool.{cond-true, cond-false, cases_eq, eq-eqb, ne_eqb}
+use Rattle.std.proofs.lemmas.Bool.{cond-true, cond-false, cases_eq, eq-eqb, ne_eqb, both_ways}
 use Rattle.std.proofs.lemmas.Bool.Decides.{nat_tests}
 use Rattle.std.proofs.lemmas.Grind.{get_or-set_at}
 use Rattle.ttx_plan.specs.declared.packet.Packet.{Packet}
@@ -79,8 +79,8 @@ tracks_none lines cursors s f sent free from = record {
 
 -- what a slot by the rule of turns can be
 abbrev pub IsFrom : Magazines → List Slot → Slot → Type 0
-IsFrom mags before Empty = Unit {0}
-IsFrom mags before (Info bytes) = mags.info ≡ Some bytes
+IsFrom mags before Empty = find (is_ready mags before) (order (turn_from before)) ≡ None
+IsFrom mags before (Info bytes) = (mags.info ≡ Some bytes) × (is_info_due mags.lines (length before) ≡ true)
 IsFrom mags before (Sent queue packet) = (queue < 8) × (next_of mags queue before ≡ Some packet) × (is_ready mags before queue ≡ true)
 
 idle : (lines : ℕ) (cursors : Cursors) (before : List Slot) (slot : Slot) → Tracks lines cursors before →
@@ -155,17 +155,18 @@ tracks_more lines mags cursors before (Sent queue packet) t h =
 
 -- what the rule of turns gives
 pub turn_from_queues : (mags : Magazines) (before : List Slot) → IsFrom mags before (slot_after mags before)
-turn_from_queues mags before = by_info mags.info (is_info_due mags.lines (length before)) refl
+turn_from_queues mags before = by_info mags.info (is_info_due mags.lines (length before)) refl refl
   where
     by_next : (m : ℕ) (o : Option Packet) → m < 8 → next_of mags m before ≡ o → is_ready mags before m ≡ true → IsFrom mags before (sending m o)
-    by_next m None lt e ready = tt
+    by_next m None lt e ready = absurd (both_ways false refl (ap (may_go mags m before) (sym e) ∙ ready))
     by_next m (Some packet) lt e ready = (lt, e, ready)
 
     by_found : (o : Option ℕ) → find (is_ready mags before) (order (turn_from before)) ≡ o → IsFrom mags before (chosen mags before o)
-    by_found None e = tt
+    by_found None e = e
     by_found (Some m) e = let r = found_ready (is_ready mags before) (turn_from before) m e in by_next m (next_of mags m before) r.1 refl r.0
 
-    by_info : (info : Option (List ℕ)) (due : Bool) → mags.info ≡ info → IsFrom mags before (or_info info due (next_slot mags before))
-    by_info None due e = by_found (find (is_ready mags before) (order (turn_from before))) refl
-    by_info (Some bytes) true e = e
-    by_info (Some bytes) false e = by_found (find (is_ready mags before) (order (turn_from before))) refl
+    by_info : (info : Option (List ℕ)) (due : Bool) → mags.info ≡ info → is_info_due mags.lines (length before) ≡ due →
+        IsFrom mags before (or_info info due (next_slot mags before))
+    by_info None due e f = by_found (find (is_ready mags before) (order (turn_from before))) refl
+    by_info (Some bytes) true e f = (e, f)
+    by_info (Some bytes) false e f = by_found (find (is_ready mags before) (order (turn_from before))) refl

@@ -67,8 +67,3 @@ get_left [] zero h = absurd (omega arith)
 get_left [] (suc n) h = absurd (omega arith)
 get_left (y ∷ ys) zero h = (y, refl)
 get_left (y ∷ ys) (suc n) h = get_left ys n h
-
-pub get_within : {A : Type 0} (xs : List A) (n : ℕ) (x : A) → slice_get xs n ≡ Some x → n < length xs
-get_within [] n x h = let e : None ≡ Some x = h in cc
-get_within (y ∷ ys) zero x h = omega arith
-get_within (y ∷ ys) (suc n) x h = let k : n < length ys = get_within ys n x h in omega arith

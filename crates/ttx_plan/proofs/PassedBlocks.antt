@@ -3,7 +3,7 @@ use Rattle.std.proofs.Common.{◌≡◌, ℕ, zero, suc, ◌+◌, ◌/◌, ◌%�
 use Rattle.std.proofs.Common.{get_or, set, refl, sym, ap, ◌∙◌, subst, arith, inl, inr, append_assoc, append-nil}
 use Rattle.std.specs.Prelude.{replicate}
 use Rattle.std.proofs.lemmas.Bool.{cond-true, cond-false, cases_eq, eq-eqb, ne_eqb}
-use Rattle.std.proofs.lemmas.List.{get_or-set_same, get_or-set_other, length-set, map-append, take_more}
+use Rattle.std.proofs.lemmas.List.{get_or-set_same, get_or-set_other, get_or-replicate, length-set, map-append, take_more}
 use Rattle.std.proofs.lemmas.List.Elements.{filter-append}
 use Rattle.std.proofs.lemmas.List.Sums.{sum_by-append, sum_by-cons}
 use Rattle.ttx_plan.specs.Blocks.{Block, led, round_of, rounds_to, latest, with_fillers}
@@ -35,15 +35,7 @@ pub record KeepsLatest (pages : List ℕ) (blocks : List Block) : Type 0 where
   pub kept : (queue : ℕ) → queue < 8 → get_or pages queue 0 ≡ latest queue (passed [] blocks)
 
 pub keeps_none : (pages : List ℕ) → pages ≡ replicate 8 255 → KeepsLatest pages []
-keeps_none pages e = record { size = ap length e; kept = λ queue lt. ap (λ x. get_or x queue 0) e ∙ all queue lt }
-  where
-    same : (n queue : ℕ) → queue < n → ◌≡◌ {A = ℕ} (get_or (replicate n 255) queue 0) 255
-    same zero queue lt = absurd (omega arith)
-    same (suc n) zero lt = refl
-    same (suc n) (suc queue) lt = same n queue (omega arith)
-
-    all : (queue : ℕ) → queue < 8 → ◌≡◌ {A = ℕ} (get_or (replicate 8 255) queue 0) 255
-    all queue lt = same 8 queue lt
+keeps_none pages e = record { size = ap length e; kept = λ queue lt. ap (λ x. get_or x queue 0) e ∙ get_or-replicate 8 queue 255 0 lt }
 
 pub keeps_next : (pages : List ℕ) (blocks : List Block) (block : Block) → block.queue < 8 → KeepsLatest pages blocks →
     KeepsLatest (set pages block.queue block.page) (blocks ++ block ∷ [])

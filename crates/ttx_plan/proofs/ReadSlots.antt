@@ -118,7 +118,7 @@ module _ (laws : LawsBelow) (pages : List Authored) (class : Class) where
     where
       one : (s : Slot) → IsFrom (magazines_for lines (option_map info_bytes info) sent) before s → Reads pages false s
       one Empty from = empty_slot laws pages false
-      one (Info bytes) from = info_read laws pages false class info said bytes from
+      one (Info bytes) from = info_read laws pages false class info said bytes from.0
       one (Sent queue packet) from =
           all_get (λ p. Reads pages false (Sent queue p)) (queue_packets false sent queue) (sent_by queue before) packet
           (queue_read sent all queue from.0) (subst (λ x. slice_get x (sent_by queue before) ≡ Some packet) (queue_at_is sent queue from.0) from.1)

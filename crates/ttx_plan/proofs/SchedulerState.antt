@@ -1,7 +1,7 @@
 -- What the scheduler has done so far.
 use Rattle.std.proofs.Common.{◌≡◌, ℕ, ◌+◌, ◌*◌, ◌<◌, ◌≤◌, true, false, List, [], ◌∷◌, ◌++◌, length, Option, refl, sym, ap, ◌∙◌, subst, arith, cond}
 use Rattle.std.proofs.Common.{replicate, get_or, zero, suc, ◌-◌, drop, length-append, length-drop}
-use Rattle.std.proofs.lemmas.List.{length-replicate}
+use Rattle.std.proofs.lemmas.List.{length-replicate, get_or-replicate}
 use Rattle.std.specs.Prelude.{Vec}
 use Rattle.std.specs.declared.alloc.Global.{Global}
 use Rattle.ttx_plan.specs.declared.packet.Packet.{Packet}
@@ -30,26 +30,12 @@ pub record State (mags : Magazines) (cursors : Cursors) (slots : List (List ℕ)
 abbrev pub cursors_none : Cursors
 cursors_none = record { sent = replicate 8 0; free_at = replicate 8 0; from = 0 }
 
-abbrev zero_list : List ℕ
-zero_list = replicate 8 0
-
-zeros : (m : ℕ) → m < 8 → get_or zero_list m 0 ≡ 0
-zeros zero lt = refl
-zeros (suc zero) lt = refl
-zeros (suc (suc zero)) lt = refl
-zeros (suc (suc (suc zero))) lt = refl
-zeros (suc (suc (suc (suc zero)))) lt = refl
-zeros (suc (suc (suc (suc (suc zero))))) lt = refl
-zeros (suc (suc (suc (suc (suc (suc zero)))))) lt = refl
-zeros (suc (suc (suc (suc (suc (suc (suc zero))))))) lt = refl
-zeros (suc (suc (suc (suc (suc (suc (suc (suc m)))))))) lt = absurd (omega arith)
-
 pub start : (mags : Magazines) (cursors : Cursors) (left : ℕ) → cursors ≡ cursors_none → left
     ≡ sum_to 8 (λ m. length (queue_of mags m)) → 0 < left → State mags cursors [] left
 start mags cursors left e n some = subst (λ x. State mags x [] left) (sym e) (record {
   before = [];
   turns = tt;
-  tracks = tracks_none mags.lines cursors_none refl refl zeros zeros refl;
+  tracks = tracks_none mags.lines cursors_none refl refl (λ m lt. get_or-replicate 8 m 0 0 lt) (λ m lt. get_or-replicate 8 m 0 0 lt) refl;
   slots_are = refl;
   left_is = n;
   small = omega arith;
@@ -143,10 +129,8 @@ finish_length mags cursors slots filled s is_filled line few =
     omega (arith, fewer, rest, size, at_length mags cursors slots 0 s, all_slots s.before, s.small)
   where
     no_info : (b : List Slot) → ends_sent b ≡ true → ends_info b ≡ false
-    no_info [] e = refl
-    no_info (Empty ∷ b) e = refl
-    no_info (Sent m packet ∷ b) e = refl
     no_info (Info bytes ∷ b) e = let f : false ≡ true = e in cc
+    no_info b e = refl
 
 -- a cycle that ends with a packet has a slot
 pub some_slot : (mags : Magazines) (cycle : List (List ℕ)) → IsParallel mags cycle → 0 < length cycle

@@ -2,7 +2,7 @@
 use Rattle.std.proofs.Common.{◌≡◌, ℕ, zero, suc, ◌+◌, ◌*◌, ◌/◌, ◌%◌, ◌^◌, ◌<◌, ◌≤◌, Bool, true, false, cond, eqb, ltb, ◌&&◌, ◌||◌, List, [], ◌∷◌, ◌++◌, length, take}
 use Rattle.std.proofs.Common.{Option, Some, None, refl, sym, ap, ◌∙◌, subst, arith, inl, inr, get_or}
 use Rattle.std.specs.Prelude.{slice_get, filter}
-use Rattle.std.proofs.lemmas.Bool.{cond-true, cond-false, cases_Bool, cases_eq, cases_lt, lt-ltb, eqb-true, eq-eqb}
+use Rattle.std.proofs.lemmas.Bool.{cond-true, cond-false, cases_Bool, cases_eq, cases_lt, lt-ltb, eqb-true, eq-eqb, and_parts, and_from, or_left, or_right, both_ways}
 use Rattle.std.proofs.lemmas.List.Sums.{fails_before_first, passes_at_first}
 use Rattle.std.proofs.lemmas.Option.{slice_get_within, get_or_from_slice_get}
 use Rattle.ttx_page.specs.declared.class.Class.{Class}
@@ -54,8 +54,7 @@ first_not_after pages at p e = elim (cases_lt at (first_of_turns pages p)) [
   | inl before ↦
       let fails = fails_before_first (take_turns p) pages at p before in
       let here : get_or pages at p ≡ p = get_or_from_slice_get pages at p p e in
-      let both : true ≡ false = sym (takes_own_turn p) ∙ ap (take_turns p) (sym here) ∙ fails in
-      cc
+      absurd (both_ways _ fails (ap (take_turns p) here ∙ takes_own_turn p))
   | inr le ↦ le
 ]
 
@@ -74,23 +73,14 @@ turn_alike pages places others at p e agree = elim (cases_eq (first_of_turns pag
       let passes = passes_at_first (take_turns p) pages p within in
       let here : get_or pages (first_of_turns pages p) p ≡ q.0 = get_or_from_slice_get pages (first_of_turns pages p) q.0 p q.1 in
       let takes : take_turns p q.0 ≡ true = ap (take_turns p) (sym here) ∙ passes in
-      let often : eqb p.often q.0.often ≡ true = second (share_number p q.0) (eqb p.often q.0.often) takes in
+      let often : eqb p.often q.0.often ≡ true = (and_parts (share_number p q.0) (eqb p.often q.0.often) takes).1 in
       let same_often : q.0.often ≡ p.often = sym (eqb-true p.often q.0.often often) in
       let before : comes_before at p (first_of_turns pages p) q.0 ≡ true =
-      later (ltb p.often q.0.often) (eqb q.0.often p.often) (ltb (first_of_turns pages p) at) (eq-eqb q.0.often p.often same_often)
-      (lt-ltb (first_of_turns pages p) at lt) in
+      or_right (ltb p.often q.0.often) _ (and_from _ _ (eq-eqb q.0.often p.often same_often) (lt-ltb (first_of_turns pages p) at lt)) in
       let places_alike = agree (first_of_turns pages p) q.0 q.1 before in
       ap (λ n. cond (eqb (first_of_turns pages p) at) None
       (Some ((n + steps pages p * (8 / p.often) / count_of_turns pages p) % (8 / p.often)))) places_alike
 ]
-  where
-    second : (a b : Bool) → (a && b) ≡ true → b ≡ true
-    second true b t = t
-    second false b t = cc
-
-    later : (a b c : Bool) → b ≡ true → c ≡ true → (a || (b && c)) ≡ true
-    later true b c s t = refl
-    later false b c s t = ap (λ x. x && c) s ∙ t
 
 -- the packets of the pages before
 
@@ -134,7 +124,7 @@ earlier_alike class pages places others at p agree =
     ap (λ z. z ++ filter (λ (b : Block). eqb b.often p.often) (take at (placed places (blocks_of class pages))))
     (filter_alike (λ b. ltb p.often b.often) (placed places (blocks_of class pages)) (placed others (blocks_of class pages)) size
     (λ k x y e f. alike k x y e f (λ (b : Block). ltb p.often b.often) (λ n b. refl)
-    (λ q listed t. ap (λ (b : Bool). b || (eqb q.often p.often && ltb k at)) t)))
+    (λ q listed t. or_left (ltb p.often q.often) _ t)))
     ∙ ap (λ z. filter (λ (b : Block). ltb p.often b.often) (placed others (blocks_of class pages)) ++ z)
     (filter_alike (λ b. eqb b.often p.often) (take at (placed places (blocks_of class pages))) (take at (placed others (blocks_of class pages)))
     (take_sizes at (placed places (blocks_of class pages)) (placed others (blocks_of class pages)) size)
@@ -142,12 +132,8 @@ earlier_alike class pages places others at p agree =
     let there = get_taken at (placed places (blocks_of class pages)) k x e in
     let other = get_taken at (placed others (blocks_of class pages)) k y f in
     alike k x y there.1 other.1 (λ (b : Block). eqb b.often p.often) (λ n b. refl)
-    (λ q listed t. last (ltb p.often q.often) (eqb q.often p.often) (ltb k at) t (lt-ltb k at there.0))))
+    (λ q listed t. or_right (ltb p.often q.often) _ (and_from _ _ t (lt-ltb k at there.0)))))
   where
-    last : (a b c : Bool) → b ≡ true → c ≡ true → (a || (b && c)) ≡ true
-    last true b c s t = refl
-    last false b c s t = ap (λ x. x && c) s ∙ t
-
     alike : (k : ℕ) (x y : Block) → slice_get (placed places (blocks_of class pages)) k ≡ Some x →
         slice_get (placed others (blocks_of class pages)) k ≡ Some y → (test : Block → Bool) →
         ((n : ℕ) (b : Block) → test (at_place n b) ≡ test b) →

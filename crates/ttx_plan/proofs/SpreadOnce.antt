@@ -15,7 +15,7 @@ use Rattle.ttx_plan.proofs.SubpageLists.{listed_at}
 use Rattle.ttx_plan.proofs.PlacedPages.{page_block, blocks_size}
 use Rattle.ttx_plan.proofs.SpreadBurdens.{burden_alike}
 use Rattle.ttx_plan.proofs.SpreadPasses.{AreOften}
-use Rattle.ttx_plan.proofs.SpreadPlaces.{first_least_each}
+use Rattle.ttx_plan.proofs.SpreadPlaces.{first_least_same}
 
 first_least_once : (value : ℕ → ℕ) (count a b : ℕ) → IsFirstLeast value count a → IsFirstLeast value count b → a ≡ b
 first_least_once value count a b l m = elim (cases_order a b) [
@@ -36,8 +36,8 @@ places_agree : (class : Class) (pages : List Authored) (places others : List ℕ
 places_agree class pages places others a one two zero k p e lt = absurd (omega (arith, lt))
 places_agree class pages places others a one two (suc m) k p e lt =
     first_least_once (burden_so_far class pages others k p) (8 / p.often) (get_or places k 0) (get_or others k 0)
-    (first_least_each (burden_so_far class pages places k p) (burden_so_far class pages others k p) (8 / p.often) (get_or places k 0)
-    (λ round. burden_alike class pages places others k p round e
+    (first_least_same (burden_so_far class pages places k p) (burden_so_far class pages others k p) (8 / p.often) (get_or places k 0)
+    (λ round lt. burden_alike class pages places others k p round e
     (λ i q f before. places_agree class pages places others a one two m i q f (sooner i q f before))) (one k p e)) (two k p e)
   where
     sooner : (i : ℕ) (q : Authored) → slice_get pages i ≡ Some q → comes_before k p i q ≡ true → (8 - q.often) * length pages + i < m

@@ -34,9 +34,9 @@ pub page_spread : (class : Class) (places : List ℕ) (pages : List Authored) (n
 page_spread class places pages n often place burdens packets page lt e is range least judged counted spread =
     let few : 8 / page.often ≤ 8 = (period_range page.often (subst IsOften (sym is) range)).1 in
     let more = spread_more class pages places n place page lt e
-    (first_least_same (λ round. get_or burdens round 0) (burden_so_far class pages places n page) (8 / page.often) place few
-    (λ round below. judged round below
-    ∙ ap (λ m. burden pages places n page m round) (counted.each round below
+    (first_least_same (λ round. get_or burdens round 0) (burden_so_far class pages places n page) (8 / page.often) place
+    (λ round below. judged round (omega (arith, below, few))
+    ∙ ap (λ m. burden pages places n page m round) (counted.each round (omega (arith, below, few))
     ∙ ap (λ o. packets_so_far (placed places (blocks_of class pages)) o n round) (sym is)))
     (subst (λ o. IsFirstLeast (λ round. get_or burdens round 0) (8 / o) place) (sym is) least))
     (subst (λ o. IsSpreadTo class pages places o n) (sym is) spread) in

@@ -3,7 +3,7 @@ use Rattle.std.proofs.Common.{◌≡◌, ◌⊎◌, ℕ, zero, suc, ◌+◌, ◌
 use Rattle.std.proofs.Common.{List, [], ◌∷◌, ◌++◌, length, set, take}
 use Rattle.std.proofs.Common.{get_or, Some, None, refl, sym, ap, ◌∙◌, subst, arith, inl, inr}
 use Rattle.std.specs.Prelude.{slice_get, filter, sum_by}
-use Rattle.std.proofs.lemmas.Bool.{cond-true, cond-false, cases_eq, eq-eqb, ne_eqb, le-ltb}
+use Rattle.std.proofs.lemmas.Bool.{cond-true, cond-false, cases_eq, eq-eqb, ne_eqb, le-ltb, or_from, and_left, and_right, both_ways}
 use Rattle.std.proofs.lemmas.List.{append-nil, append_assoc, take_more_set, get_or-set_same, get_or-set_other}
 use Rattle.std.proofs.lemmas.List.Elements.{filter-append, filter_more}
 use Rattle.std.proofs.lemmas.List.Sums.{sum_by-cons, sum_by-append}
@@ -112,28 +112,17 @@ packets_more xs block round =
         let z : sum_by weight [] ≡ 0 = refl in omega (arith, h, z)
     last false = refl
 
-pub first_least_same : (f g : ℕ → ℕ) (count number : ℕ) → count ≤ 8 → ((round : ℕ) → round < 8 → f round ≡ g round) →
-    IsFirstLeast f count number → IsFirstLeast g count number
-first_least_same f g count number few same l =
-    let here : f number ≡ g number = same number (omega (arith, l.within)) in
+pub first_least_same : (f g : ℕ → ℕ) (count number : ℕ) → ((round : ℕ) → round < count → f round ≡ g round) → IsFirstLeast f count number →
+    IsFirstLeast g count number
+first_least_same f g count number same l =
+    let here : f number ≡ g number = same number l.within in
     record {
       within = l.within;
-      least = λ other lt. let there : f other ≡ g other = same other (omega (arith, lt, few)) in omega (arith, here, there, l.least other lt);
-      first = λ other lt. let there : f other ≡ g other = same other (omega (arith, lt, few, l.within)) in
-          omega (arith, here, there, l.first other lt);
+      least = λ other lt. let there : f other ≡ g other = same other lt in omega (arith, here, there, l.least other lt);
+      first = λ other lt. let there : f other ≡ g other = same other (omega (arith, lt, l.within)) in omega (arith, here, there, l.first other lt);
     }
 
 -- a page takes its place
-
-pub first_least_each : (f g : ℕ → ℕ) (count number : ℕ) → ((round : ℕ) → f round ≡ g round) → IsFirstLeast f count number →
-    IsFirstLeast g count number
-first_least_each f g count number same l =
-    let here : f number ≡ g number = same number in
-    record {
-      within = l.within;
-      least = λ other lt. let there : f other ≡ g other = same other in omega (arith, here, there, l.least other lt);
-      first = λ other lt. let there : f other ≡ g other = same other in omega (arith, here, there, l.first other lt);
-    }
 
 -- a place of the page at n does not matter to a page that takes its place before, nor to the page itself
 agree_set : (pages : List Authored) (places : List ℕ) (n place : ℕ) (page : Authored) (at : ℕ) (p : Authored) → slice_get pages n ≡ Some page →
@@ -142,24 +131,17 @@ agree_set pages places n place page at p e not_before = λ k q there before. eli
   | inl same ↦
       let is : Some q ≡ Some page = sym there ∙ ap (slice_get pages) same ∙ e in
       let q_is : q ≡ page = cc in
-      let both : true ≡ false = sym before ∙ ap (λ i. comes_before at p i q) same ∙ ap (comes_before at p n) q_is ∙ not_before in
-      cc
+      absurd (both_ways _ (ap (λ i. comes_before at p i q) same ∙ ap (comes_before at p n) q_is ∙ not_before) before)
   | inr apart ↦ get_or-set_other places n k place 0 apart
 ]
-
-not_before : (a b c : Bool) → a ≡ false → (b ≡ false) ⊎ (c ≡ false) → (a || (b && c)) ≡ false
-not_before true b c e h = cc
-not_before false true c e (inl f) = cc
-not_before false true c e (inr f) = f
-not_before false false c e h = refl
 
 kept_place : (class : Class) (pages : List Authored) (places : List ℕ) (n place : ℕ) (page : Authored) (at : ℕ) (p : Authored) →
     slice_get pages n ≡ Some page → slice_get pages at ≡ Some p → (at ≡ n → ⊥) → comes_before at p n page ≡ false →
     IsAtPlace class pages places at p → IsAtPlace class pages (set places n place) at p
 kept_place class pages places n place page at p e there apart before spread =
     subst (IsFirstLeast (burden_so_far class pages (set places n place) at p) (8 / p.often)) (sym (get_or-set_other places n at place 0 apart))
-    (first_least_each (burden_so_far class pages places at p) (burden_so_far class pages (set places n place) at p) (8 / p.often) (get_or places at 0)
-    (λ round. sym (burden_alike class pages (set places n place) places at p round there (agree_set pages places n place page at p e before)))
+    (first_least_same (burden_so_far class pages places at p) (burden_so_far class pages (set places n place) at p) (8 / p.often) (get_or places at 0)
+    (λ round lt. sym (burden_alike class pages (set places n place) places at p round there (agree_set pages places n place page at p e before)))
     spread)
 
 pub spread_more : (class : Class) (pages : List Authored) (places : List ℕ) (n place : ℕ) (page : Authored) → n < length places →
@@ -172,27 +154,25 @@ spread_more class pages places n place page within e least spread = record {
       let p_is : p ≡ page = cc in
       absurd (omega (arith, lt, ap (λ (x : Authored). x.often) p_is)) in
       kept_place class pages places n place page at p e there apart
-      (not_before (ltb p.often page.often) (eqb page.often p.often) (ltb n at) (le-ltb p.often page.often (omega (arith, lt)))
-      (inl (ne_eqb page.often p.often (λ (eq : page.often ≡ p.often). omega (arith, lt, eq)))))
+      (or_from _ _ (le-ltb p.often page.often (omega (arith, lt)))
+      (and_left _ (ltb n at) (ne_eqb page.often p.often (λ (eq : page.often ≡ p.often). omega (arith, lt, eq)))))
       (spread.more at p there lt);
   same = λ at p there often lt. elim (cases_eq at n) [
     | inl same ↦
         let is : Some page ≡ Some p = sym e ∙ ap (slice_get pages) (sym same) ∙ there in
         let p_is : page ≡ p = cc in
         let before : comes_before n page n page ≡ false =
-        not_before (ltb page.often page.often) (eqb page.often page.often) (ltb n n) (le-ltb page.often page.often (omega arith))
-        (inr (le-ltb n n (omega arith))) in
+        or_from _ _ (le-ltb page.often page.often (omega arith)) (and_right (eqb page.often page.often) _ (le-ltb n n (omega arith))) in
         let here : IsAtPlace class pages (set places n place) n page =
         subst (IsFirstLeast (burden_so_far class pages (set places n place) n page) (8 / page.often)) (sym (get_or-set_same places n place 0 within))
-        (first_least_each (burden_so_far class pages places n page) (burden_so_far class pages (set places n place) n page) (8 / page.often) place
-        (λ round. sym (burden_alike class pages (set places n place) places n page round e (agree_set pages places n place page n page e before)))
+        (first_least_same (burden_so_far class pages places n page) (burden_so_far class pages (set places n place) n page) (8 / page.often) place
+        (λ round lt. sym (burden_alike class pages (set places n place) places n page round e (agree_set pages places n place page n page e before)))
         least) in
         subst (λ k. IsAtPlace class pages (set places n place) k p) (sym same) (subst (IsAtPlace class pages (set places n place) n) p_is here)
     | inr apart ↦
         let before : at < n = omega (arith, lt, apart) in
         kept_place class pages places n place page at p e there apart
-        (not_before (ltb p.often page.often) (eqb page.often p.often) (ltb n at) (le-ltb p.often page.often (omega (arith, often)))
-        (inr (le-ltb n at (omega (arith, before)))))
+        (or_from _ _ (le-ltb p.often page.often (omega (arith, often))) (and_right (eqb page.often p.often) _ (le-ltb n at (omega (arith, before)))))
         (spread.same at p there often before)
   ];
 }

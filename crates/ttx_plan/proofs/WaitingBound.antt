@@ -5,6 +5,7 @@ use Rattle.std.specs.List.{list_any, find}
 use Rattle.std.proofs.lemmas.Bool.{cond-true, cond-false, cond_both, ltb-true, eqb-true, cases_eq, eq-eqb, ne_eqb, not-false, and_parts}
 use Rattle.std.proofs.Math.Nat.{div-add-mod, mul_comm}
 use Rattle.std.proofs.lemmas.Nat.{mod-mul-add}
+use Rattle.std.proofs.lemmas.Option.{slice_get_within}
 use Rattle.ttx_plan.specs.declared.packet.Packet.{Packet}
 use Rattle.ttx_plan.specs.declared.packet.Slot.{Slot}
 use Rattle.ttx_plan.specs.declared.packet.Slot.TheVariants.{Empty, Info, Sent}
@@ -14,7 +15,7 @@ use Rattle.ttx_plan.specs.Turns.{is_info_due, or_info, slot_after, KeepsTurns}
 use Rattle.ttx_plan.specs.Counting.{sum_to, slots_for, left_in}
 use Rattle.ttx_plan.proofs.WaitingMagazines.{until, recent_until, until_more}
 use Rattle.ttx_plan.proofs.FirstInOrder.{found_ready, none_ready}
-use Rattle.ttx_plan.proofs.MagazineSums.{sum_le, sum_less, sum_some, drop_next, get_left, get_within}
+use Rattle.ttx_plan.proofs.MagazineSums.{sum_le, sum_less, sum_some, drop_next, get_left}
 use Rattle.ttx_plan.proofs.CursorsLookBack.{IsFrom, turn_from_queues}
 
 -- a page header of any magazine
@@ -52,33 +53,12 @@ sent_bytes_length (slot ∷ before) = let h : length (sent_bytes before) ≡ len
     in omega (arith, length-append (sent_bytes before) (bytes_of slot ∷ []))
 
 abbrev pub ends_info : List Slot → Bool
-ends_info [] = false
-ends_info (Empty ∷ before) = false
 ends_info (Info bytes ∷ before) = true
-ends_info (Sent m packet ∷ before) = false
+ends_info _ = false
 
 -- a packet 8/30 is only where it is due
-info_due : (info : Option (List ℕ)) (due : Bool) (slot : Slot) (bytes : List ℕ) → ((b : List ℕ) → Info b ≡ slot → ⊥) → Info bytes
-    ≡ or_info info due slot → due ≡ true
-info_due None due slot bytes never h = absurd (never bytes h)
-info_due (Some b) true slot bytes never h = refl
-info_due (Some b) false slot bytes never h = absurd (never bytes h)
-
-next_no_info : (mags : Magazines) (before : List Slot) (b : List ℕ) → Info b ≡ next_slot mags before → ⊥
-next_no_info mags before b h = at (find (is_ready mags before) (order (turn_from before))) h
-  where
-    at_next : (m : ℕ) (o : Option Packet) → Info b ≡ sending m o → ⊥
-    at_next m None h = cc
-    at_next m (Some packet) h = cc
-
-    at : (o : Option ℕ) → Info b ≡ chosen mags before o → ⊥
-    at None h = cc
-    at (Some m) h = at_next m (next_of mags m before) h
-
 info_at : (mags : Magazines) (before : List Slot) (bytes : List ℕ) → Info bytes ≡ slot_after mags before → length before % (50 * mags.lines) ≡ 0
-info_at mags before bytes h =
-    eqb-true (length before % (50 * mags.lines)) 0
-    (info_due mags.info (is_info_due mags.lines (length before)) (next_slot mags before) bytes (next_no_info mags before) h)
+info_at mags before bytes h = eqb-true (length before % (50 * mags.lines)) 0 (subst (IsFrom mags before) (sym h) (turn_from_queues mags before)).1
 
 not_both : (n every : ℕ) → 50 ≤ every → n % every ≡ 0 → suc n % every ≡ 0 → ⊥
 not_both n every big a b =
@@ -107,10 +87,8 @@ few_infos mags (Info bytes ∷ before) lines t =
     }
   where
     apart : (b : List Slot) → KeepsTurns mags b → length b % (50 * mags.lines) ≡ 0 → ends_info b ≡ false
-    apart [] t here = refl
-    apart (Empty ∷ b) t here = refl
-    apart (Sent m packet ∷ b) t here = refl
     apart (Info c ∷ b) t here = absurd (not_both (length b) (50 * mags.lines) (omega arith) (info_at mags b c t.0) here)
+    apart b t here = refl
 
 -- what is left after the magazine's packet
 rest_sent : (mags : Magazines) (before : List Slot) (queue : ℕ) (packet : Packet) → next_of mags queue before ≡ Some packet →
@@ -130,9 +108,6 @@ left_of mags before = sum_to 8 (λ m. length (left_in mags before m))
 
 abbrev pub work_of : Magazines → List Slot → ℕ
 work_of mags before = sum_to 8 (λ m. slots_for mags.lines (left_in mags before m))
-
-cost : ℕ → Packet → ℕ
-cost lines packet = cond (is_page_header packet.kind) (suc lines) 1
 
 pub left_less : (mags : Magazines) (before : List Slot) (queue : ℕ) (packet : Packet) → IsFrom mags before (Sent queue packet) →
     left_of mags before ≡ 1 + left_of mags (Sent queue packet ∷ before)
@@ -162,8 +137,7 @@ empty_waits mags before most h some =
     let r = sum_some (λ m. length (left_in mags before m)) 8 some in
     let x = get_left (queue_of mags r.0) (sent_by r.0 before) r.2 in
     let off : is_ready mags before r.0 ≡ false =
-    none_ready (is_ready mags before) (turn_from before) most
-    (none_found mags.info (is_info_due mags.lines (length before)) h) r.0 r.1 in
+    none_ready (is_ready mags before) (turn_from before) most (subst (IsFrom mags before) (sym h) (turn_from_queues mags before)) r.0 r.1 in
     let off' : not (waits mags r.0 before x.0) ≡ false = ap (may_go mags r.0 before) (sym x.1) ∙ off in
     let on : waits mags r.0 before x.0 ≡ true = not-false (waits mags r.0 before x.0) off' in
     let recent : list_any (has_header r.0) (take mags.lines before) ≡ true =
@@ -173,20 +147,6 @@ empty_waits mags before most h some =
     let more : until (has_header r.0) mags.lines before ≤ until has_any_header mags.lines before =
     until_more (has_header r.0) has_any_header mags.lines before (has_any_header_of r.0) in
     omega arith
-  where
-    none_next : (m : ℕ) (o : Option Packet) → next_of mags m before ≡ o → is_ready mags before m ≡ true → Empty ≡ sending m o → ⊥
-    none_next m None e ready h = let f : false ≡ true = ap (may_go mags m before) (sym e) ∙ ready in cc
-    none_next m (Some packet) e ready h = cc
-
-    none_at : (o : Option ℕ) → find (is_ready mags before) (order (turn_from before)) ≡ o → Empty ≡ chosen mags before o → o ≡ None
-    none_at None e h = refl
-    none_at (Some m) e h = absurd (none_next m (next_of mags m before) refl ((found_ready (is_ready mags before) (turn_from before) m e).0) h)
-
-    none_found : (info : Option (List ℕ)) (due : Bool) → Empty ≡ or_info info due (next_slot mags before) →
-        find (is_ready mags before) (order (turn_from before)) ≡ None
-    none_found None due h = none_at (find (is_ready mags before) (order (turn_from before))) refl h
-    none_found (Some b) false h = none_at (find (is_ready mags before) (order (turn_from before))) refl h
-    none_found (Some b) true h = let e : Empty ≡ Info b = h in cc
 
 pub total_falls : (mags : Magazines) (before : List Slot) (slot : Slot) → turn_from before ≤ 8 → slot ≡ slot_after mags before →
     0 < left_of mags before → total mags (slot ∷ before) ≤ total mags before
@@ -233,7 +193,7 @@ sent_most mags (Sent queue packet ∷ before) t m lt =
     elim (cases_eq m queue) as (λ _. cond (eqb queue m) (suc (sent_by m before)) (sent_by m before) ≤ length (queue_of mags m)) [
       | inl e ↦
           let within : sent_by m before < length (queue_of mags m) =
-          get_within (queue_of mags m) (sent_by m before) packet (ap (λ x. next_of mags x before) e ∙ from.1) in
+          slice_get_within (queue_of mags m) (sent_by m before) packet (ap (λ x. next_of mags x before) e ∙ from.1) in
           rw (cond-true (eqb queue m) (suc (sent_by m before)) (sent_by m before) (eq-eqb queue m (sym e))) (omega arith)
       | inr ne ↦ rw (cond-false (eqb queue m) (suc (sent_by m before)) (sent_by m before) (ne_eqb queue m (λ e. ne (sym e)))) h
     ]
