@@ -1,6 +1,6 @@
 -- The blocks of a service's pages with their places, by their index.
 use Rattle.std.proofs.Common.{◌≡◌, ℕ, zero, suc, ◌<◌, Bool, List, [], ◌∷◌, length, set, get_or}
-use Rattle.std.proofs.Common.{Some, None, refl, ap, ◌∙◌, subst, arith}
+use Rattle.std.proofs.Common.{Some, None, refl, ap, ◌∙◌, arith}
 use Rattle.std.specs.Prelude.{All, slice_get, option_map}
 use Rattle.std.specs.List.{AllByRecursion}
 use Rattle.std.proofs.lemmas.List.{length-map}

@@ -5,7 +5,7 @@ use Rattle.std.specs.Prelude.{All, slice_get, option_map}
 use Rattle.std.specs.List.{AllByRecursion}
 use Rattle.std.proofs.lemmas.Bool.{cases_lt}
 use Rattle.std.proofs.lemmas.List.{map-append, length-map, get_or-map, get_or_past}
-use Rattle.std.proofs.lemmas.Option.{slice_get-map, slice_get_within}
+use Rattle.std.proofs.lemmas.Option.{slice_get-map}
 use Rattle.ttx_info.specs.Infos.{InfoFields, info_bytes}
 use Rattle.ttx_page.specs.declared.class.Class.{Class}
 use Rattle.ttx_page.specs.Packets.{packet_of}
@@ -23,13 +23,13 @@ use Rattle.ttx_plan.specs.Ranges.{ArePlaces}
 use Rattle.ttx_plan.specs.Seen.{seen_sent}
 use Rattle.ttx_plan.specs.Serial.{serial_slots}
 use Rattle.ttx_plan.specs.Turns.{missing}
-use Rattle.ttx_plan.proofs.ListElements.{all_get}
-use Rattle.ttx_plan.proofs.PlacedBlocks.{IsInRounds, placed_get, in_its_round}
+use Rattle.ttx_plan.proofs.ListElements.{Has, has_get}
+use Rattle.ttx_plan.proofs.PlacedBlocks.{placed_has, in_its_round}
 use Rattle.ttx_plan.proofs.QueueBlocks.{IsPageBlock, Heads, UpToHeader, Tails, sent_are_blocks, queue_led}
 use Rattle.ttx_plan.proofs.QueueSlots.{heads, of_queue, queue_filled, serial_queue, parallel_queue, timed, timed_bytes}
 use Rattle.ttx_plan.proofs.ReadPackets.{LawsBelow, Reads, heads_fit}
 use Rattle.ttx_plan.proofs.ReadSlots.{serial_read, parallel_read, read_there}
-use Rattle.ttx_plan.proofs.SentBlocks.{led_get}
+use Rattle.ttx_plan.proofs.SentBlocks.{led_has}
 use Rattle.ttx_plan.proofs.ServicePages.{blocks_in_rounds}
 use Rattle.ttx_plan.proofs.SpacedRows.{AreSpaced, serial_spaced, parallel_spaced}
 
@@ -112,28 +112,31 @@ get_map f xs k x e = slice_get-map f xs k ∙ ap (option_map f) e
 
 -- the block is one of those that are sent, with or without a time-filling header before it, at its place among the rounds
 pub record HasSent (sent : List Block) (block : Block) : Type 0 where
-  pub index : ℕ
   pub filler : Bool
   pub place : ℕ
-  pub listed : slice_get sent index ≡ Some (led filler (at_place place block))
+  pub among : Has (led filler (at_place place block)) sent
 
 pub sent_block : (spread : List ℕ) (late : Bool) (class : Class) (serial : Bool) (pages : List Authored) → All (IsAuthored serial) pages →
     ArePlaces spread pages → (i : ℕ) (authored : Authored) → slice_get pages i ≡ Some authored →
     HasSent (blocks_sent_at spread late class pages) (block_at class authored)
 sent_block spread late class serial pages a range i authored e =
     let blocks = placed spread (blocks_of class pages) in
-    let p = placed_get spread (blocks_of class pages) i (block_at class authored) (get_map (block_at class) pages i authored e) in
-    let j = in_its_round blocks i (at_place p.0 (block_at class authored))
-    (all_get IsInRounds blocks i (at_place p.0 (block_at class authored)) (blocks_in_rounds class serial spread pages a range) p.1) p.1 in
-    let k = led_get late [] (rounds_to blocks 8) j.0 (at_place p.0 (block_at class authored)) j.1 in
-    record { index = j.0; filler = k.0; place = p.0; listed = k.1 }
+    let p = placed_has spread (blocks_of class pages) (block_at class authored)
+    (has_get (blocks_of class pages) i _ (get_map (block_at class) pages i authored e)) in
+    let k = led_has late [] (rounds_to blocks 8) (at_place p.0 (block_at class authored))
+    (in_its_round blocks _ (blocks_in_rounds class serial spread pages a range) p.1) in
+    record { filler = k.0; place = p.0; among = k.1 }
 
 -- a service with pages has a block that is sent
 pub some_sent : (spread : List ℕ) (late : Bool) (class : Class) (serial : Bool) (pages : List Authored) → All (IsAuthored serial) pages →
     ArePlaces spread pages → (sent : List SentBlock) → map seen_sent sent ≡ blocks_sent_at spread late class pages →
     (pages ≡ [] → ⊥) → 0 < length sent
-some_sent spread late class serial [] a range sent e some = absurd (some refl)
-some_sent spread late class serial (p ∷ pages) a range sent e some =
+some_sent spread late class serial [] a range sent e not_empty = absurd (not_empty refl)
+some_sent spread late class serial (p ∷ pages) a range sent e not_empty =
     let there = sent_block spread late class serial (p ∷ pages) a range 0 p refl in
-    let one = slice_get_within (blocks_sent_at spread late class (p ∷ pages)) there.index _ there.listed in
+    let one = some (blocks_sent_at spread late class (p ∷ pages)) _ there.among in
     omega (arith, one, ap length e, length-map sent seen_sent)
+  where
+    some : (xs : List Block) (x : Block) → Has x xs → 0 < length xs
+    some [] x h = absurd h
+    some (y ∷ xs) x h = omega arith

@@ -1,5 +1,5 @@
 -- The packets of a magazine's queue: after each header come the rows and X/27/0 of its own page, up to the next header.
-use Rattle.std.proofs.Common.{◌≡◌, ◌⊎◌, ℕ, zero, suc, ◌+◌, ◌-◌, Bool, true, false, cond, eqb, List, [], ◌∷◌, ◌++◌, map, Some, None, refl, sym, ap, ◌∙◌, subst}
+use Rattle.std.proofs.Common.{◌≡◌, ◌⊎◌, ℕ, suc, ◌+◌, ◌-◌, Bool, true, false, cond, eqb, List, [], ◌∷◌, ◌++◌, map, Some, refl, sym, ap, ◌∙◌, subst}
 use Rattle.std.proofs.Common.{inl, inr, arith, append_assoc}
 use Rattle.std.specs.Prelude.{All, slice_get, flat_map}
 use Rattle.std.specs.List.{AllByRecursion}
@@ -167,20 +167,18 @@ module _ (pages : List Authored) (serial : Bool) (class : Class) (queue : ℕ) w
       ))
 
 -- the header of a block that is sent is in its queue
-pub queue_has : (serial : Bool) (sent : List Block) (k : ℕ) (block : Block) → slice_get sent k ≡ Some block →
+pub queue_has : (serial : Bool) (sent : List Block) (block : Block) → Has block sent →
     Has (header_packet block.header) (queue_packets serial sent block.queue)
-queue_has serial sent k block e = has_left (header_packet block.header) (flat_map mine sent) _ (there sent k e)
+queue_has serial sent block h = has_left (header_packet block.header) (flat_map mine sent) _ (there sent h)
   where
     mine : Block → List Packet
     mine b = cond (eqb b.queue block.queue) (packets_of serial b) []
 
-    there : (sent : List Block) (k : ℕ) → slice_get sent k ≡ Some block →
+    there : (sent : List Block) → Has block sent →
         Has (header_packet block.header) (flat_map (λ b. cond (eqb b.queue block.queue) (packets_of serial b) []) sent)
-    there [] k e = let f : None ≡ Some block = e in cc
-    there (b ∷ sent) zero e =
-        let f : Some block ≡ Some b = sym e in
-        let g : block ≡ b = cc in
-        has_left (header_packet block.header) (mine b) (flat_map mine sent) (subst (λ x. Has (header_packet block.header) (mine x)) g
+    there [] h = absurd h
+    there (b ∷ sent) (inl e) =
+        has_left (header_packet block.header) (mine b) (flat_map mine sent) (subst (λ x. Has (header_packet block.header) (mine x)) e
         (subst (Has (header_packet block.header)) (sym (cond-true (eqb block.queue block.queue) (packets_of serial block) [] (eq-eqb _ _ refl)))
         (has_right (header_packet block.header) (filler_of serial block) (page_packets block) (inl refl))))
-    there (b ∷ sent) (suc k) e = has_right (header_packet block.header) (mine b) (flat_map mine sent) (there sent k e)
+    there (b ∷ sent) (inr h) = has_right (header_packet block.header) (mine b) (flat_map mine sent) (there sent h)

@@ -154,7 +154,7 @@ has_header laws late class service cycle c n own listed =
     let head = header_packet (page_header_bytes own.page) in
     let k = sent_block c.places late class service.serial service.pages c.service_is.pages c.in_range n own listed in
     let s = slot_with queue head l.slots (subst (Has head) (sym (l.in_queue queue small))
-    (queue_has service.serial (blocks_sent_at c.places late class service.pages) k.index _ k.listed)) in
+    (queue_has service.serial (blocks_sent_at c.places late class service.pages) _ k.among)) in
     let within = sent_within _ _ _ _ _ cycle l s.0 queue head s.1 in
     record {
       slot = pos s.0;

@@ -1,6 +1,6 @@
 -- What the scheduler has done so far.
 use Rattle.std.proofs.Common.{◌≡◌, ℕ, ◌+◌, ◌*◌, ◌<◌, ◌≤◌, true, false, List, [], ◌∷◌, ◌++◌, length, Option, refl, sym, ap, ◌∙◌, subst, arith, cond}
-use Rattle.std.proofs.Common.{replicate, get_or, zero, suc, ◌-◌, drop, length-append, length-drop}
+use Rattle.std.proofs.Common.{replicate, ◌-◌, drop, length-append, length-drop}
 use Rattle.std.proofs.lemmas.List.{length-replicate, get_or-replicate}
 use Rattle.std.specs.Prelude.{Vec}
 use Rattle.std.specs.declared.alloc.Global.{Global}

@@ -1,9 +1,8 @@
 -- The pages of a service one by one: their blocks, how often they are sent, and the queues that they use.
-use Rattle.std.proofs.Common.{◌≡◌, ℕ, zero, suc, ◌+◌, ◌-◌, ◌*◌, ◌<◌, ◌≤◌, Bool, true, cond, List, [], ◌∷◌, ◌++◌, ◌||◌, map, length, take}
-use Rattle.std.proofs.Common.{Option, Some, None, refl, sym, ap, ◌∙◌, subst, arith, inl, inr, eqb, get_or, mul-le-mul}
+use Rattle.std.proofs.Common.{◌≡◌, ℕ, zero, suc, ◌+◌, ◌-◌, ◌*◌, ◌<◌, ◌≤◌, Bool, cond, List, [], ◌∷◌, ◌++◌, ◌||◌, map, length, take}
+use Rattle.std.proofs.Common.{Option, Some, None, refl, sym, ap, ◌∙◌, subst, arith, eqb, get_or, mul-le-mul}
 use Rattle.std.specs.Prelude.{All, slice_get, option_map, sum_by}
 use Rattle.std.specs.List.{AllByRecursion, list_any}
-use Rattle.std.proofs.lemmas.Bool.{eqb-true, or_cases}
 use Rattle.std.proofs.lemmas.List.{map-append, length-map, length-take-le}
 use Rattle.std.proofs.lemmas.Option.{get_or_from_slice_get, slice_get_within, slice_get-map, slice_get_read, same_Some}
 use Rattle.std.proofs.lemmas.List.Sums.{sum_by-cons, sum_by-append}
@@ -11,14 +10,13 @@ use Rattle.ttx_page.specs.declared.class.Class.{Class}
 use Rattle.ttx_page.specs.declared.page.Page.{Page as PageValue}
 use Rattle.ttx_page.specs.Pages.{Page}
 use Rattle.ttx_page.specs.Views.{page_of}
-use Rattle.ttx_source.specs.Keys.{is_often}
 use Rattle.ttx_source.specs.Services.{Authored, authored_at, IsAuthored}
 use Rattle.ttx_plan.specs.Blocks.{Block, at_place, placed, has_pages, used_to}
 use Rattle.ttx_plan.specs.Carries.{block_at, blocks_of}
 use Rattle.ttx_plan.specs.Ranges.{ArePlaces, IsOften}
 use Rattle.ttx_plan.specs.Seen.{used_by}
 use Rattle.ttx_plan.proofs.OftenNumbers.{often_ranges}
-use Rattle.ttx_plan.proofs.PlacedBlocks.{IsInRounds, placed_any, placed_none, placed_next}
+use Rattle.ttx_plan.proofs.PlacedBlocks.{IsInRounds, placed_none, placed_next}
 
 -- the page at an index of a list, as a function shows it
 page_shown : (values : List PageValue) (pages : List Authored) (i : ℕ) (value : PageValue) → map page_of values ≡ map (λ p. p.page) pages →
@@ -138,13 +136,6 @@ used_same class values pages (suc n) same =
     ap (λ x. x ++ cond (list_any (λ p. eqb ((page_of p).id.mag - 1) n) values) (n ∷ []) []) (used_same class values pages n same)
     ∙ ap (λ b. used_to (blocks_of class pages) n ++ cond b (n ∷ []) [])
     (any_value n values ∙ ap (list_any (λ p. eqb (p.id.mag - 1) n)) same ∙ any_page class n pages)
-
--- places do not change the queues that are used
-pub same_used_by : (blocks : List Block) (spread : List ℕ) (n : ℕ) → used_to blocks n ≡ used_to (placed spread blocks) n
-same_used_by blocks spread zero = refl
-same_used_by blocks spread (suc n) =
-    ap (λ x. x ++ cond (has_pages blocks n) (n ∷ []) []) (same_used_by blocks spread n)
-    ∙ ap (λ b. used_to (placed spread blocks) n ++ cond b (n ∷ []) []) (sym (placed_any (λ b. eqb b.queue n) (λ place b. refl) spread blocks))
 
 pub same_lengths : (values : List PageValue) (pages : List Authored) → map page_of values ≡ map (λ p. p.page) pages → length values ≡ length pages
 same_lengths values pages e = sym (length-map values page_of) ∙ ap length e ∙ length-map pages (λ p. p.page)

@@ -1,7 +1,7 @@
 -- All waiting together costs at most one field for each block, so the slots stay within the length bound.
 use Rattle.std.proofs.Common.{◌≡◌, ◌≢◌, ℕ, suc, ◌+◌, ◌-◌, ◌*◌, ◌/◌, ◌%◌, ◌<◌, ◌≤◌, Bool, true, false, not, cond, List, [], ◌∷◌, length, take, drop}
-use Rattle.std.proofs.Common.{Option, Some, None, refl, sym, ap, ◌∙◌, subst, arith, inl, inr, eqb, length-append}
-use Rattle.std.specs.List.{list_any, find}
+use Rattle.std.proofs.Common.{Some, refl, sym, ap, ◌∙◌, subst, arith, inl, inr, eqb, length-append}
+use Rattle.std.specs.List.{list_any}
 use Rattle.std.proofs.lemmas.Bool.{cond-true, cond-false, cond_both, ltb-true, eqb-true, cases_eq, eq-eqb, ne_eqb, not-false, and_parts}
 use Rattle.std.proofs.Math.Nat.{div-add-mod, mul_comm}
 use Rattle.std.proofs.lemmas.Nat.{mod-mul-add}
@@ -10,11 +10,11 @@ use Rattle.ttx_plan.specs.declared.packet.Packet.{Packet}
 use Rattle.ttx_plan.specs.declared.packet.Slot.{Slot}
 use Rattle.ttx_plan.specs.declared.packet.Slot.TheVariants.{Empty, Info, Sent}
 use Rattle.ttx_plan.specs.Packets.{has_header, is_page_header, is_row_or_links, sent_bytes, bytes_of}
-use Rattle.ttx_plan.specs.Turns.{Magazines, queue_of, sent_by, turn_from, order, next_of, waits, may_go, is_ready, sending, chosen, next_slot}
-use Rattle.ttx_plan.specs.Turns.{is_info_due, or_info, slot_after, KeepsTurns}
+use Rattle.ttx_plan.specs.Turns.{Magazines, queue_of, sent_by, turn_from, next_of, waits, may_go, is_ready}
+use Rattle.ttx_plan.specs.Turns.{slot_after, KeepsTurns}
 use Rattle.ttx_plan.specs.Counting.{sum_to, slots_for, left_in}
 use Rattle.ttx_plan.proofs.WaitingMagazines.{until, recent_until, until_more}
-use Rattle.ttx_plan.proofs.FirstInOrder.{found_ready, none_ready}
+use Rattle.ttx_plan.proofs.FirstInOrder.{none_ready}
 use Rattle.ttx_plan.proofs.MagazineSums.{sum_le, sum_less, sum_some, drop_next, get_left}
 use Rattle.ttx_plan.proofs.CursorsLookBack.{IsFrom, turn_from_queues}
 
