@@ -22,18 +22,6 @@ is_not_told given asked other fails = (λ e. absurd (other e), λ p. absurd (fai
 pub ok_is_other : (cycle : Cycle) (fault : PlanFault) → ◌≡◌ {A = Answer} (Ok cycle) (Err fault) → ⊥
 ok_is_other cycle fault e = cc
 
-pub memory_is_not_pages : ◌≡◌ {A = Answer} (Err NoMemory) (Err NoPages) → ⊥
-memory_is_not_pages e = cc
-
-pub memory_is_not_long : ◌≡◌ {A = Answer} (Err NoMemory) (Err TooLong) → ⊥
-memory_is_not_long e = cc
-
-pub long_is_not_pages : ◌≡◌ {A = Answer} (Err TooLong) (Err NoPages) → ⊥
-long_is_not_pages e = cc
-
-pub pages_are_not_long : ◌≡◌ {A = Answer} (Err NoPages) (Err TooLong) → ⊥
-pages_are_not_long e = cc
-
 -- the program's list of pages is empty if and only if the service's is
 pub empty_alike : {A : Type 0} (values : List A) (pages : List Authored) → length values ≡ length pages → true ≡ eqb (length values) 0 → pages ≡ []
 empty_alike values [] same e = ap (λ _. []) same

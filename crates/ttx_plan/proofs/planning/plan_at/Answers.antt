@@ -4,8 +4,7 @@ use Rattle.ttx_plan.specs.declared.faults.PlanFault.TheVariants.{NoPages, TooLon
 use Rattle.ttx_plan.specs.Acceptance.{IsPlanned}
 use Rattle.ttx_plan.specs.Blocks.{length_bound}
 use Rattle.ttx_plan.specs.Carries.{blocks_sent_at}
-use Rattle.ttx_plan.proofs.PlanFaults.{is_told, is_not_told, ok_is_other, memory_is_not_pages, memory_is_not_long, long_is_not_pages}
-use Rattle.ttx_plan.proofs.PlanFaults.{pages_are_not_long, empty_alike, some_alike, bound_of_none}
+use Rattle.ttx_plan.proofs.PlanFaults.{is_told, is_not_told, ok_is_other, empty_alike, some_alike, bound_of_none}
 use Rattle.ttx_plan.proofs.planning.plan_at.Goals as goal
 
 pub cycle_of-requires : goal.cycle_of-requires
@@ -25,10 +24,10 @@ returns-in-Err c =
       planned = tt;
       accepted = tt;
       followed = tt;
-      no_pages = is_not_told (Err NoMemory) (Err NoPages) memory_is_not_pages
+      no_pages = is_not_told (Err NoMemory) (Err NoPages) (λ e. cc)
           (some_alike c.pages.result.now c.args.service.now.pages c.pages.ensures.count
           (sym c.if-is_empty.false ∙ c.is_empty.ensures));
-      too_long = is_not_told (Err NoMemory) (Err TooLong) memory_is_not_long
+      too_long = is_not_told (Err NoMemory) (Err TooLong) (λ e. cc)
           (λ (long : 65536 < length_bound c.args.service.now.lines
           (blocks_sent_at c.args.places.now c.args.receivers.late c.args.receivers.class c.args.service.now.pages)). omega (arith, few, long));
     }
@@ -62,7 +61,7 @@ returns-then-is_empty c =
       accepted = tt;
       followed = tt;
       no_pages = is_told (Err NoPages) (Err NoPages) refl none;
-      too_long = is_not_told (Err NoPages) (Err TooLong) pages_are_not_long
+      too_long = is_not_told (Err NoPages) (Err TooLong) (λ e. cc)
           (bound_of_none c.args.places.now c.args.receivers.late c.args.receivers.class c.args.service.now.lines c.args.service.now.pages
           c.pages.ensures.ranges.lines_to none);
     }
@@ -73,7 +72,7 @@ returns-then-length_bound-gt-MOST c = record {
   planned = tt;
   accepted = tt;
   followed = tt;
-  no_pages = is_not_told (Err TooLong) (Err NoPages) long_is_not_pages
+  no_pages = is_not_told (Err TooLong) (Err NoPages) (λ e. cc)
       (some_alike c.pages.result.now c.args.service.now.pages c.pages.ensures.count
       (sym c.if-is_empty.false ∙ c.is_empty.ensures));
   too_long = is_told (Err TooLong) (Err TooLong) refl (subst (λ n. 65536 < n) c.length_bound.ensures c.if-length_bound-gt-MOST.true);
