@@ -27,14 +27,11 @@ sum_less f g w (suc n) queue lt here others = elim (cases_eq n queue) as (λ _. 
       let b : f n ≡ w + g n = ap f e ∙ here ∙ ap (λ x. w + g x) (sym e) in
       omega arith
   | inr ne ↦
-      let small : queue < n = strict lt ne in
+      let small : queue < n = omega (arith, lt, ne) in
       let a : sum_to n f ≡ w + sum_to n g = sum_less f g w n queue small here others in
       let b : f n ≡ g n = others n ne in
       omega arith
 ]
-  where
-    strict : queue < suc n → (n ≡ queue → ⊥) → queue < n
-    strict h ne = elim (cases_lt queue n) as (λ _. queue < n) [ inl k ↦ k | inr k ↦ absurd (ne (omega arith)) ]
 
 pub sum_some : (f : ℕ → ℕ) (n : ℕ) → 0 < sum_to n f → (m : ℕ) × (m < n) × (0 < f m)
 sum_some f zero h = absurd (omega arith)
@@ -50,11 +47,8 @@ pub sum_none : (f : ℕ → ℕ) (n : ℕ) → sum_to n f ≡ 0 → (m : ℕ) �
 sum_none f zero h m lt = absurd (omega arith)
 sum_none f (suc n) h m lt = elim (cases_eq m n) as (λ _. f m ≡ 0) [
   | inl e ↦ let a : f n ≡ 0 = omega arith in ap f e ∙ a
-  | inr ne ↦ sum_none f n (omega arith) m (strict ne)
+  | inr ne ↦ sum_none f n (omega arith) m (omega (arith, lt, ne))
 ]
-  where
-    strict : (m ≡ n → ⊥) → m < n
-    strict ne = elim (cases_lt m n) as (λ _. m < n) [ inl k ↦ k | inr k ↦ absurd (ne (omega arith)) ]
 
 -- an element by its place, and the rest from there on
 pub drop_next : {A : Type 0} (xs : List A) (n : ℕ) (x : A) → slice_get xs n ≡ Some x → drop n xs ≡ x ∷ drop (suc n) xs

@@ -18,14 +18,11 @@ picked_next blocks order k block lt e =
     ap (picked blocks) (take_more order k 0 lt) ∙ picked_append blocks (take k order) (get_or order k 0 ∷ [])
     ∙ ap (λ z. picked blocks (take k order) ++ z) (append-nil (some_block (slice_get blocks (get_or order k 0))) ∙ ap some_block e)
 
-pub used_next : (sent : List Block) (queue : ℕ) (b : Bool) → has_pages sent queue ≡ b →
-    length (used_to sent (queue + 1)) ≡ length (used_to sent queue) + cond b 1 0
-used_next sent queue b e =
+pub used_next : (sent : List Block) (queue : ℕ) → length (used_to sent (queue + 1)) ≡ length (used_to sent queue) + cond (has_pages sent queue) 1 0
+used_next sent queue =
     let n : queue + 1 ≡ suc queue = omega arith in
-    ap (λ k. length (used_to sent k)) n
-    ∙ length-append (used_to sent queue) (cond (has_pages sent queue) (queue ∷ []) [])
-    ∙ ap (λ (x : Bool). length (used_to sent queue) + length (cond x (queue ∷ []) [])) e
-    ∙ ap (λ k. length (used_to sent queue) + k) (one b)
+    ap (λ k. length (used_to sent k)) n ∙ length-append (used_to sent queue) (cond (has_pages sent queue) (queue ∷ []) [])
+    ∙ ap (λ k. length (used_to sent queue) + k) (one (has_pages sent queue))
   where
     one : (x : Bool) → length (cond x (queue ∷ []) []) ≡ cond {A = ℕ} x 1 0
     one true = refl

@@ -29,15 +29,10 @@ loop-left-smaller-then-holds_packet c =
     omega (arith, r, c.in_ok-push.ensures.len)
 
 pub loop-left-preserved-then-holds_packet : goal.loop-left-preserved-then-holds_packet
-loop-left-preserved-then-holds_packet c =
-    subst (λ x. State (magazines_of c.args.lines c.args.info c.args.queues.now) c.step-slot.new.self x (c.loop-left.left - 1))
-    (sym c.in_ok-push.ensures.items)
-    (subst (λ x. State (magazines_of c.args.lines c.args.info c.args.queues.now) c.step-slot.new.self
-    (c.loop-left.slots.items ++ x ∷ []) (c.loop-left.left - 1)) (sym c.bytes.ensures)
-    (more c.args.lines c.args.info c.args.queues.now c.loop-left.cursors c.step-slot.new.self c.loop-left.slots.items c.len.result
-    c.loop-left.left (c.loop-left.left - 1) c.step-slot.result
+loop-left-preserved-then-holds_packet c = rw (c.in_ok-push.ensures.items, c.bytes.ensures) (more c.args.lines c.args.info c.args.queues.now
+    c.loop-left.cursors c.step-slot.new.self c.loop-left.slots.items c.len.result c.loop-left.left (c.loop-left.left - 1) c.step-slot.result
     c.loop-left.invariant (omega arith) c.loop-left-test.true c.step-slot.ensures.slot c.step-slot.ensures.cursors
-    (cond-true (holds_packet c.step-slot.result) _ _ (sym c.holds_packet.ensures ∙ c.if-holds_packet.true))))
+    (cond-true (holds_packet c.step-slot.result) _ _ (sym c.holds_packet.ensures ∙ c.if-holds_packet.true)))
 
 pub loop-left-smaller : goal.loop-left-smaller
 loop-left-smaller c =
@@ -46,15 +41,10 @@ loop-left-smaller c =
     omega (arith, r, c.in_ok-push.ensures.len)
 
 pub loop-left-preserved : goal.loop-left-preserved
-loop-left-preserved c =
-    subst (λ x. State (magazines_of c.args.lines c.args.info c.args.queues.now) c.step-slot.new.self x c.loop-left.left)
-    (sym c.in_ok-push.ensures.items)
-    (subst (λ x. State (magazines_of c.args.lines c.args.info c.args.queues.now) c.step-slot.new.self
-    (c.loop-left.slots.items ++ x ∷ []) c.loop-left.left) (sym c.bytes.ensures)
-    (more c.args.lines c.args.info c.args.queues.now c.loop-left.cursors c.step-slot.new.self c.loop-left.slots.items c.len.result
-    c.loop-left.left c.loop-left.left c.step-slot.result
+loop-left-preserved c = rw (c.in_ok-push.ensures.items, c.bytes.ensures) (more c.args.lines c.args.info c.args.queues.now
+    c.loop-left.cursors c.step-slot.new.self c.loop-left.slots.items c.len.result c.loop-left.left c.loop-left.left c.step-slot.result
     c.loop-left.invariant (omega arith) c.loop-left-test.true c.step-slot.ensures.slot c.step-slot.ensures.cursors
-    (cond-false (holds_packet c.step-slot.result) _ _ (sym c.holds_packet.ensures ∙ c.if-holds_packet.false))))
+    (cond-false (holds_packet c.step-slot.result) _ _ (sym c.holds_packet.ensures ∙ c.if-holds_packet.false)))
 
 pub returns-clause-cycle : goal.returns-clause-cycle
 returns-clause-cycle c =
