@@ -24,9 +24,6 @@ with_info_append lines info at (x ∷ xs) ys =
     ap (λ z. first ++ x ∷ z) (h ∙ ap (λ m. with_info lines info next xs ++ with_info lines info m ys) n)
     ∙ sym (append_assoc first (x ∷ with_info lines info next xs) (with_info lines info (at + length (first ++ x ∷ with_info lines info next xs)) ys))
 
-pub laid_none : (lines : ℕ) (info : Option (List ℕ)) → IsLaid lines info [] []
-laid_none lines info = record { slots_are = refl }
-
 pub laid_more : (lines : ℕ) (info : Option (List ℕ)) (list : List Slot) (slot : Slot) (old new : List (List ℕ)) → IsLaid lines info list old →
     new ≡ old ++ (map bytes_of (info_if info (is_info_due lines (length old))) ++ bytes_of slot ∷ []) → IsLaid lines info (list ++ slot ∷ []) new
 laid_more lines info list slot old new l e = record {

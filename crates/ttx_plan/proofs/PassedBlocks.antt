@@ -34,9 +34,6 @@ pub record KeepsLatest (pages : List ℕ) (blocks : List Block) : Type 0 where
   pub size : length pages ≡ 8
   pub kept : (queue : ℕ) → queue < 8 → get_or pages queue 0 ≡ latest queue (passed [] blocks)
 
-pub keeps_none : (pages : List ℕ) → pages ≡ replicate 8 255 → KeepsLatest pages []
-keeps_none pages e = record { size = ap length e; kept = λ queue lt. ap (λ x. get_or x queue 0) e ∙ get_or-replicate 8 queue 255 0 lt }
-
 pub keeps_next : (pages : List ℕ) (blocks : List Block) (block : Block) → block.queue < 8 → KeepsLatest pages blocks →
     KeepsLatest (set pages block.queue block.page) (blocks ++ block ∷ [])
 keeps_next pages blocks block lt k = record {

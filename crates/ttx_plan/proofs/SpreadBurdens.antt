@@ -1,8 +1,9 @@
 -- The burden of a place is settled by the places of the pages that come before.
 use Rattle.std.proofs.Common.{◌≡◌, ℕ, zero, suc, ◌+◌, ◌*◌, ◌/◌, ◌%◌, ◌^◌, ◌<◌, ◌≤◌, Bool, true, false, cond, eqb, ltb, ◌&&◌, List, [], ◌∷◌, ◌++◌, length, take}
-use Rattle.std.proofs.Common.{Option, Some, None, refl, sym, ap, ◌∙◌, subst, arith, inl, inr, get_or}
+use Rattle.std.proofs.Common.{min, Option, Some, None, refl, sym, ap, ◌∙◌, subst, arith, inl, inr, get_or}
 use Rattle.std.specs.Prelude.{slice_get, filter}
 use Rattle.std.proofs.lemmas.Bool.{cond-true, cond-false, cases_Bool, cases_eq, cases_lt, lt-ltb, eqb-true, eq-eqb, and_parts, and_from, or_left, or_right, both_ways}
+use Rattle.std.proofs.lemmas.List.{length-take}
 use Rattle.std.proofs.lemmas.List.Sums.{fails_before_first, passes_at_first}
 use Rattle.std.proofs.lemmas.Option.{slice_get_within, get_or_from_slice_get}
 use Rattle.ttx_page.specs.declared.class.Class.{Class}
@@ -109,13 +110,6 @@ get_taken (suc n) [] k x e = let f : None ≡ Some x = e in cc
 get_taken (suc n) (z ∷ xs) zero x e = (omega arith, e)
 get_taken (suc n) (z ∷ xs) (suc k) x e = let r = get_taken n xs k x e in (omega (arith, r.0), r.1)
 
-take_sizes : (n : ℕ) (xs ys : List Block) → length xs ≡ length ys → length (take n xs) ≡ length (take n ys)
-take_sizes zero xs ys size = refl
-take_sizes (suc n) [] [] size = refl
-take_sizes (suc n) [] (y ∷ ys) size = absurd (omega (arith, size))
-take_sizes (suc n) (x ∷ xs) [] size = absurd (omega (arith, size))
-take_sizes (suc n) (x ∷ xs) (y ∷ ys) size = ap suc (take_sizes n xs ys (omega (arith, size)))
-
 earlier_alike : (class : Class) (pages : List Authored) (places others : List ℕ) (at : ℕ) (p : Authored) → AgreeBefore pages places others at p →
     earlier (placed places (blocks_of class pages)) p.often at ≡ earlier (placed others (blocks_of class pages)) p.often at
 earlier_alike class pages places others at p agree =
@@ -127,7 +121,7 @@ earlier_alike class pages places others at p agree =
     (λ q listed t. or_left (ltb p.often q.often) _ t)))
     ∙ ap (λ z. filter (λ (b : Block). ltb p.often b.often) (placed others (blocks_of class pages)) ++ z)
     (filter_alike (λ b. eqb b.often p.often) (take at (placed places (blocks_of class pages))) (take at (placed others (blocks_of class pages)))
-    (take_sizes at (placed places (blocks_of class pages)) (placed others (blocks_of class pages)) size)
+    (length-take at (placed places (blocks_of class pages)) ∙ ap (min at) size ∙ sym (length-take at (placed others (blocks_of class pages))))
     (λ k x y e f.
     let there = get_taken at (placed places (blocks_of class pages)) k x e in
     let other = get_taken at (placed others (blocks_of class pages)) k y f in

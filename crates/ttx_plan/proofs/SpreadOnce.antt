@@ -3,7 +3,8 @@ use Rattle.std.proofs.Common.{◌≡◌, ℕ, zero, suc, ◌/◌, ◌<◌, ◌�
 use Rattle.std.proofs.Common.{◌+◌, ◌-◌, ◌*◌, mul-le-mul, Some, refl, sym, ap, ◌∙◌, subst, arith, inl, inr}
 use Rattle.std.specs.Prelude.{slice_get}
 use Rattle.std.proofs.lemmas.Bool.{cases_order, ltb-true, eqb-true, or_cases, and_parts}
-use Rattle.std.proofs.lemmas.Option.{slice_get_within}
+use Rattle.std.proofs.lemmas.Option.{slice_get_within, get_or_from_slice_get}
+use Rattle.std.proofs.lemmas.List.{same_lists}
 use Rattle.ttx_page.specs.declared.class.Class.{Class}
 use Rattle.ttx_source.specs.Services.{Authored}
 use Rattle.ttx_plan.specs.Blocks.{Block, at_place, placed}
@@ -51,28 +52,16 @@ places_agree class pages places others a one two (suc m) k p e lt =
               omega (arith, lt, ltb-true i k two.1, ap (λ n. (8 - n) * length pages) (eqb-true q.often p.often two.0))
         ]
 
-all_equal : (xs ys : List Block) → length xs ≡ length ys →
-    ((k : ℕ) (x y : Block) → slice_get xs k ≡ Some x → slice_get ys k ≡ Some y → x ≡ y) → xs ≡ ys
-all_equal [] [] size each = refl
-all_equal [] (y ∷ ys) size each = absurd (omega (arith, size))
-all_equal (x ∷ xs) [] size each = absurd (omega (arith, size))
-all_equal (x ∷ xs) (y ∷ ys) size each =
-    ap (λ z. z ∷ xs) (each 0 x y refl refl) ∙ ap (λ z. y ∷ z) (all_equal xs ys (omega (arith, size)) (λ k u v e f. each (suc k) u v e f))
-
 lt_suc : (n : ℕ) → n < suc n
 lt_suc n = omega arith
 
 pub spread_once : (class : Class) (pages : List Authored) (places others : List ℕ) → AreOften pages → IsSpread class pages places →
     IsSpread class pages others → placed places (blocks_of class pages) ≡ placed others (blocks_of class pages)
 spread_once class pages places others a one two =
-    all_equal (placed places (blocks_of class pages)) (placed others (blocks_of class pages))
+    same_lists (placed places (blocks_of class pages)) (placed others (blocks_of class pages))
     (blocks_size class places pages ∙ sym (blocks_size class others pages))
-    (λ k x y e f.
-    let within : k < length pages = subst (λ n. k < n) (blocks_size class places pages)
-    (slice_get_within (placed places (blocks_of class pages)) k x e) in
-    let p = listed_at pages k within in
-    let first : Some x ≡ Some (at_place (get_or places k 0) (block_at class p.0)) = sym e ∙ page_block class places pages k p.0 p.1 in
-    let second : Some y ≡ Some (at_place (get_or others k 0) (block_at class p.0)) = sym f ∙ page_block class others pages k p.0 p.1 in
-    let x_is : x ≡ at_place (get_or places k 0) (block_at class p.0) = cc in
-    let y_is : y ≡ at_place (get_or others k 0) (block_at class p.0) = cc in
-    x_is ∙ ap (λ n. at_place n (block_at class p.0)) (places_agree class pages places others a one two _ k p.0 p.1 (lt_suc _)) ∙ sym y_is)
+    (λ k d lt.
+    let p = listed_at pages k (omega (arith, lt, blocks_size class places pages)) in
+    get_or_from_slice_get (placed places (blocks_of class pages)) k _ d (page_block class places pages k p.0 p.1)
+    ∙ ap (λ n. at_place n (block_at class p.0)) (places_agree class pages places others a one two _ k p.0 p.1 (lt_suc _))
+    ∙ sym (get_or_from_slice_get (placed others (blocks_of class pages)) k _ d (page_block class others pages k p.0 p.1)))

@@ -35,18 +35,6 @@ weight block = cond block.filler 1 0 + (length block.rest + 1)
 one : {A : Type 0} (x y : A) → Some x ≡ Some y → x ≡ y
 one x y e = cc
 
-get_set : {A : Type 0} (xs : List A) (n : ℕ) (x y : A) → slice_get (set xs n y) n ≡ Some x → x ≡ y
-get_set [] n x y e = let f : None ≡ Some x = e in cc
-get_set (z ∷ xs) zero x y e = sym (one y x e)
-get_set (z ∷ xs) (suc n) x y e = get_set xs n x y e
-
-get_other : {A : Type 0} (xs : List A) (n k : ℕ) (y : A) → (k ≡ n → ⊥) → slice_get (set xs n y) k ≡ slice_get xs k
-get_other [] n k y ne = refl
-get_other (z ∷ xs) zero zero y ne = absurd (ne refl)
-get_other (z ∷ xs) zero (suc k) y ne = refl
-get_other (z ∷ xs) (suc n) zero y ne = refl
-get_other (z ∷ xs) (suc n) (suc k) y ne = get_other xs n k y (λ e. ne (ap suc e))
-
 -- a filter that passes neither the old element nor the new one
 filter_set : (test : Block → Bool) (xs : List Block) (n : ℕ) (x y : Block) → slice_get xs n ≡ Some x → test x ≡ false → test y ≡ false →
     filter test (set xs n y) ≡ filter test xs

@@ -16,20 +16,6 @@ use Rattle.ttx_plan.proofs.PlacedPages.{each_often}
 abbrev IsLong : List ℕ → Bool → Class → ServiceFields → Type 0
 IsLong places late class service = 65536 < length_bound service.lines (blocks_sent_at places late class service.pages)
 
-pub spread_carried : (places : List ℕ) (late : Bool) (class : Class) (service : ServiceFields) (answer : Answer) →
-    IsSpread class service.pages places → IfOk answer (λ cycle. CarriesAt places late class service (slots_of cycle)) →
-    (answer ≡ Err TooLong) ↔ IsLong places late class service → IfOk answer (λ cycle. IsSpreadPlan late class service (slots_of cycle))
-spread_carried places late class service (Ok cycle) spread carries long = record {
-  places = places;
-  spread = spread;
-  carries = carries;
-  fits = elim (cases_lt 65536 (length_bound service.lines (blocks_sent_at places late class service.pages))) [
-    | inl above ↦ absurd (ok_is_other cycle TooLong (long.1 above))
-    | inr fits ↦ fits
-  ];
-}
-spread_carried places late class service (Err fault) spread carries long = tt
-
 pub exactly_too_long : (places : List ℕ) (late : Bool) (class : Class) (service : ServiceFields) → IsService service →
     IsSpread class service.pages places → IsLong places late class service ↔ IsTooLongSpread late class service
 exactly_too_long places late class service is spread = (
