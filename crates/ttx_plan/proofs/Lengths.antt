@@ -17,7 +17,7 @@ use Rattle.ttx_plan.specs.Seen.{seen_sent}
 use Rattle.ttx_plan.specs.Serial.{serial_page, serial_block, serial_list, with_info, IsLaid, to_whole_field}
 use Rattle.ttx_plan.specs.Turns.{missing}
 use Rattle.ttx_plan.proofs.MagazineSums.{sum_same, sum_less}
-use Rattle.ttx_plan.proofs.LaidSlots.{laid_length, laid_least}
+use Rattle.ttx_plan.proofs.LaidSlots.{laid_length}
 
 -- each block belongs to one of the eight queues
 
@@ -214,7 +214,7 @@ filled_most lines info blocks slots new some l e few =
     let rest : missing lines (length slots) ≤ lines = omega arith in
     let q : length (serial_list lines blocks) ≡ packets_in blocks + length blocks * lines + length (used_queues blocks) =
     serial_length lines blocks in
-    let two : length slots ≤ 2 * length (serial_list lines blocks) = laid_length lines info (serial_list lines blocks) slots l in
+    let two : length slots ≤ 2 * length (serial_list lines blocks) = (laid_length lines info (serial_list lines blocks) slots l).1 in
     bound (length new) (length slots) (missing lines (length slots)) (length (serial_list lines blocks)) lines size rest two
     (subst (λ n. 2 * n + 2 * lines ≤ 65536) (sym q) few)
   where
@@ -234,7 +234,7 @@ filled_some lines info blocks slots new some l e =
     omega (
       arith,
       serial_some lines blocks some,
-      laid_least lines info (serial_list lines blocks) slots l,
+      (laid_length lines info (serial_list lines blocks) slots l).0,
       ap length e,
       length-append slots (replicate (missing lines (length slots)) (replicate 42 0)),
     )

@@ -34,7 +34,6 @@ mod PlanFaults
 mod PlannedAcceptance
 mod PageLinks
 mod SubpageLists
-mod PlacedPages
 mod SpreadBurdens
 mod LonePages
 mod SpreadPlaces
@@ -42,4 +41,3 @@ mod SpreadPasses
 mod SpreadPages
 mod SpreadOnce
 mod SpreadPlans
-mod PickedBlocks

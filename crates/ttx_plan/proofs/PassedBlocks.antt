@@ -1,13 +1,15 @@
 -- The blocks that are sent, one by one, with the page number in the latest header of each queue.
 use Rattle.std.proofs.Common.{◌≡◌, ℕ, ◌+◌, ◌/◌, ◌%◌, ◌<◌, Bool, true, false, ◌&&◌, cond, eqb, List, [], ◌∷◌, ◌++◌, map, length, take}
 use Rattle.std.proofs.Common.{get_or, set, refl, sym, ap, ◌∙◌, subst, arith, inl, inr, append_assoc, append-nil}
-use Rattle.std.specs.Prelude.{replicate}
+use Rattle.std.proofs.Common.{Some}
+use Rattle.std.specs.Prelude.{slice_get}
 use Rattle.std.proofs.lemmas.Bool.{cond-true, cond-false, cases_eq, eq-eqb, ne_eqb}
-use Rattle.std.proofs.lemmas.List.{get_or-set_same, get_or-set_other, get_or-replicate, length-set, map-append, take_more}
+use Rattle.std.proofs.lemmas.List.{get_or-set_same, get_or-set_other, length-set, map-append, take_more}
 use Rattle.std.proofs.lemmas.List.Elements.{filter-append}
 use Rattle.std.proofs.lemmas.List.Sums.{sum_by-append, sum_by-cons}
 use Rattle.ttx_plan.specs.Blocks.{Block, led, round_of, rounds_to, latest, with_fillers}
 use Rattle.ttx_plan.specs.declared.block.PageBlock.{PageBlock}
+use Rattle.ttx_plan.specs.Order.{some_block, picked}
 use Rattle.ttx_plan.specs.Seen.{seen, fillers_in}
 
 -- the blocks that have been passed, latest first
@@ -154,3 +156,17 @@ pub seen_next : (blocks : List PageBlock) (i : ℕ) (block : PageBlock) → i < 
 seen_next blocks i block lt is =
     ap (map seen) (take_more blocks i block lt) ∙ map-append seen (take i blocks) (get_or blocks i block ∷ [])
     ∙ ap (λ x. map seen (take i blocks) ++ seen x ∷ []) (sym is)
+
+-- blocks in an order: one more of them
+
+picked_append : (blocks : List Block) (xs ys : List ℕ) → picked blocks (xs ++ ys) ≡ picked blocks xs ++ picked blocks ys
+picked_append blocks [] ys = refl
+picked_append blocks (x ∷ xs) ys =
+    ap (λ z. some_block (slice_get blocks x) ++ z) (picked_append blocks xs ys)
+    ∙ sym (append_assoc (some_block (slice_get blocks x)) (picked blocks xs) (picked blocks ys))
+
+pub picked_next : (blocks : List Block) (order : List ℕ) (k : ℕ) (block : Block) → k < length order →
+    slice_get blocks (get_or order k 0) ≡ Some block → picked blocks (take (k + 1) order) ≡ picked blocks (take k order) ++ block ∷ []
+picked_next blocks order k block lt e =
+    ap (picked blocks) (take_more order k 0 lt) ∙ picked_append blocks (take k order) (get_or order k 0 ∷ [])
+    ∙ ap (λ z. picked blocks (take k order) ++ z) (append-nil (some_block (slice_get blocks (get_or order k 0))) ∙ ap some_block e)

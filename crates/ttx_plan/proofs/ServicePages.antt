@@ -1,6 +1,7 @@
 -- The pages of a service one by one: their blocks, how often they are sent, and the queues that they use.
 use Rattle.std.proofs.Common.{◌≡◌, ℕ, zero, suc, ◌+◌, ◌-◌, ◌*◌, ◌<◌, ◌≤◌, Bool, cond, List, [], ◌∷◌, ◌++◌, ◌||◌, map, length, take}
 use Rattle.std.proofs.Common.{Option, Some, None, refl, sym, ap, ◌∙◌, subst, arith, eqb, get_or, mul-le-mul}
+use Rattle.std.proofs.Common.{set}
 use Rattle.std.specs.Prelude.{All, slice_get, option_map, sum_by}
 use Rattle.std.specs.List.{AllByRecursion, list_any}
 use Rattle.std.proofs.lemmas.List.{map-append, length-map, length-take-le}
@@ -16,7 +17,7 @@ use Rattle.ttx_plan.specs.Carries.{block_at, blocks_of}
 use Rattle.ttx_plan.specs.Ranges.{ArePlaces, IsOften}
 use Rattle.ttx_plan.specs.Seen.{used_by}
 use Rattle.ttx_plan.proofs.OftenNumbers.{often_ranges}
-use Rattle.ttx_plan.proofs.PlacedBlocks.{IsInRounds, placed_none, placed_next}
+use Rattle.ttx_plan.proofs.PlacedBlocks.{IsInRounds, placed_all, placed_none, placed_next}
 
 -- the page at an index of a list, as a function shows it
 page_shown : (values : List PageValue) (pages : List Authored) (i : ℕ) (value : PageValue) → map page_of values ≡ map (λ p. p.page) pages →
@@ -60,9 +61,9 @@ page_there [] n p e = let f : None ≡ Some p = e in cc
 page_there (a ∷ pages) zero p e = let f : Some a.page ≡ Some p = e in let g : a.page ≡ p = cc in (a, refl, g)
 page_there (a ∷ pages) (suc n) p e = page_there pages n p e
 
-pub often_at : (serial : Bool) (pages : List Authored) (i : ℕ) (page : Authored) → All (IsAuthored serial) pages → slice_get pages i
+pub each_often : (serial : Bool) (pages : List Authored) → All (IsAuthored serial) pages → (i : ℕ) (page : Authored) → slice_get pages i
     ≡ Some page → IsOften page.often
-often_at serial pages i page a e = often_ranges page.often (authored_is serial pages a i page e).often
+each_often serial pages a i page e = often_ranges page.often (authored_is serial pages a i page e).often
 
 pub listed_page : (page : Option Authored) (often : ℕ) → option_map (λ (p : Authored). p.often) page ≡ Some often → (p : Authored)
     × ((page ≡ Some p) × (p.often ≡ often))
@@ -72,7 +73,7 @@ listed_page (Some p) often e = let f : Some p.often ≡ Some often = e in (p, (r
 pub often_there : (serial : Bool) (pages : List Authored) (i often : ℕ) → All (IsAuthored serial) pages →
     option_map (λ p. p.often) (slice_get pages i) ≡ Some often → IsOften often
 often_there serial pages i often a e =
-    let p = listed_page (slice_get pages i) often e in subst IsOften p.1.1 (often_at serial pages i p.0 a p.1.0)
+    let p = listed_page (slice_get pages i) often e in subst IsOften p.1.1 (each_often serial pages a i p.0 p.1.0)
 
 pub blocks_in_rounds : (class : Class) (serial : Bool) (spread : List ℕ) (pages : List Authored) → All (IsAuthored serial) pages →
     ArePlaces spread pages → AllByRecursion IsInRounds (placed spread (blocks_of class pages))
@@ -143,3 +144,58 @@ same_lengths values pages e = sym (length-map values page_of) ∙ ap length e �
 -- a product of two small numbers
 pub product_most : (n m : ℕ) → n ≤ 8 → m ≤ 26 → n * m ≤ 208
 product_most n m a b = let h : n * m ≤ 8 * 26 = mul-le-mul a b in omega arith
+
+-- a block by its index, at the place that the list has for it
+placed_at : (places : List ℕ) (blocks : List Block) (k : ℕ) (block : Block) → slice_get blocks k ≡ Some block →
+    slice_get (placed places blocks) k ≡ Some (at_place (get_or places k block.place) block)
+placed_at [] blocks k block e = e
+placed_at (place ∷ places) [] k block e = let f : None ≡ Some block = e in cc
+placed_at (place ∷ places) (b ∷ blocks) zero block e =
+    let f : Some b ≡ Some block = e in
+    let g : b ≡ block = cc in
+    ap (λ x. Some (at_place place x)) g
+placed_at (place ∷ places) (b ∷ blocks) (suc k) block e = placed_at places blocks k block e
+
+placed_set : (places : List ℕ) (blocks : List Block) (n place : ℕ) (block : Block) → n < length places → slice_get blocks n ≡ Some block →
+    placed (set places n place) blocks ≡ set (placed places blocks) n (at_place place block)
+placed_set [] blocks n place block lt e = absurd (omega (arith, lt))
+placed_set (p ∷ places) [] n place block lt e = let f : None ≡ Some block = e in cc
+placed_set (p ∷ places) (b ∷ blocks) zero place block lt e =
+    let f : Some b ≡ Some block = e in
+    let g : b ≡ block = cc in
+    ap (λ x. at_place place x ∷ placed places blocks) g
+placed_set (p ∷ places) (b ∷ blocks) (suc n) place block lt e =
+    ap (λ x. at_place p b ∷ x) (placed_set places blocks n place block (omega (arith, lt)) e)
+
+block_there : (class : Class) (pages : List Authored) (n : ℕ) (page : Authored) → slice_get pages n ≡ Some page →
+    slice_get (blocks_of class pages) n ≡ Some (block_at class page)
+block_there class pages n page e = slice_get-map (block_at class) pages n ∙ ap (option_map (block_at class)) e
+
+pub page_block : (class : Class) (places : List ℕ) (pages : List Authored) (n : ℕ) (page : Authored) → slice_get pages n ≡ Some page →
+    slice_get (placed places (blocks_of class pages)) n ≡ Some (at_place (get_or places n 0) (block_at class page))
+page_block class places pages n page e = placed_at places (blocks_of class pages) n (block_at class page) (block_there class pages n page e)
+
+pub page_placed : (class : Class) (places : List ℕ) (pages : List Authored) (n place : ℕ) (page : Authored) → n < length places →
+    slice_get pages n ≡ Some page →
+    placed (set places n place) (blocks_of class pages) ≡ set (placed places (blocks_of class pages)) n (at_place place (block_at class page))
+page_placed class places pages n place page lt e =
+    placed_set places (blocks_of class pages) n place (block_at class page) lt (block_there class pages n page e)
+
+often_each : (class : Class) (serial : Bool) (pages : List Authored) → All (IsAuthored serial) pages →
+    AllByRecursion (λ (b : Block). IsOften b.often) (blocks_of class pages)
+often_each class serial [] a = tt
+often_each class serial (p ∷ pages) a =
+    (often_ranges p.often (a 0 p (omega arith)).often, often_each class serial pages (λ k d lt. a (suc k) d (omega (arith, lt))))
+
+pub blocks_often : (class : Class) (serial : Bool) (places : List ℕ) (pages : List Authored) → All (IsAuthored serial) pages →
+    AllByRecursion (λ (b : Block). IsOften b.often) (placed places (blocks_of class pages))
+blocks_often class serial places pages a =
+    placed_all (λ (b : Block). IsOften b.often) (λ place b o. o) places (blocks_of class pages) (often_each class serial pages a)
+
+pub placed_size : (places : List ℕ) (blocks : List Block) → length (placed places blocks) ≡ length blocks
+placed_size [] blocks = refl
+placed_size (place ∷ places) [] = refl
+placed_size (place ∷ places) (b ∷ blocks) = ap suc (placed_size places blocks)
+
+pub blocks_size : (class : Class) (places : List ℕ) (pages : List Authored) → length (placed places (blocks_of class pages)) ≡ length pages
+blocks_size class places pages = placed_size places (blocks_of class pages) ∙ length-map pages (block_at class)

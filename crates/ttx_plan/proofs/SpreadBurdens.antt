@@ -14,7 +14,7 @@ use Rattle.ttx_plan.specs.Spread.{earlier, packets_so_far, burden_so_far}
 use Rattle.ttx_plan.specs.SubpageTurns.{take_turns, first_of_turns, turn, turn_of, comes_before, is_mate_or_none, is_earlier_mate, mates_so_far}
 use Rattle.ttx_plan.specs.SubpageTurns.{count_below, share_number, rounds_late, burden, steps, count_of_turns}
 use Rattle.ttx_plan.proofs.SubpageLists.{listed_at, takes_own_turn}
-use Rattle.ttx_plan.proofs.PlacedPages.{page_block, blocks_size}
+use Rattle.ttx_plan.proofs.ServicePages.{page_block, blocks_size}
 
 -- two lists of places agree where a page takes its place before the one at an index
 abbrev pub AgreeBefore : List Authored → List ℕ → List ℕ → ℕ → Authored → Type 0

@@ -1,18 +1,18 @@
 -- There is one way to spread pages: two lists of places by which the same pages are spread place their blocks alike.
-use Rattle.std.proofs.Common.{◌≡◌, ℕ, zero, suc, ◌/◌, ◌<◌, ◌≤◌, true, eqb, ltb, ◌&&◌, List, [], ◌∷◌, length, get_or}
-use Rattle.std.proofs.Common.{◌+◌, ◌-◌, ◌*◌, mul-le-mul, Some, refl, sym, ap, ◌∙◌, subst, arith, inl, inr}
+use Rattle.std.proofs.Common.{◌≡◌, ℕ, zero, suc, ◌/◌, ◌<◌, ◌≤◌, true, eqb, ltb, ◌&&◌, List, length, get_or}
+use Rattle.std.proofs.Common.{◌+◌, ◌-◌, ◌*◌, mul-le-mul, Some, sym, ap, ◌∙◌, arith, inl, inr}
 use Rattle.std.specs.Prelude.{slice_get}
 use Rattle.std.proofs.lemmas.Bool.{cases_order, ltb-true, eqb-true, or_cases, and_parts}
 use Rattle.std.proofs.lemmas.Option.{slice_get_within, get_or_from_slice_get}
 use Rattle.std.proofs.lemmas.List.{same_lists}
 use Rattle.ttx_page.specs.declared.class.Class.{Class}
 use Rattle.ttx_source.specs.Services.{Authored}
-use Rattle.ttx_plan.specs.Blocks.{Block, at_place, placed}
+use Rattle.ttx_plan.specs.Blocks.{at_place, placed}
 use Rattle.ttx_plan.specs.Carries.{block_at, blocks_of}
 use Rattle.ttx_plan.specs.SubpageTurns.{comes_before}
 use Rattle.ttx_plan.specs.Spread.{burden_so_far, IsFirstLeast, IsSpread}
 use Rattle.ttx_plan.proofs.SubpageLists.{listed_at}
-use Rattle.ttx_plan.proofs.PlacedPages.{page_block, blocks_size}
+use Rattle.ttx_plan.proofs.ServicePages.{page_block, blocks_size}
 use Rattle.ttx_plan.proofs.SpreadBurdens.{burden_alike}
 use Rattle.ttx_plan.proofs.SpreadPasses.{AreOften}
 use Rattle.ttx_plan.proofs.SpreadPlaces.{first_least_same}

@@ -15,7 +15,7 @@ use Rattle.ttx_plan.specs.Spread.{IsFirstLeast, IsSpread, burden_so_far, packets
 use Rattle.ttx_plan.specs.SubpageTurns.{burden}
 use Rattle.ttx_plan.specs.Spreading.{AreCounted, IsSpreadTo}
 use Rattle.ttx_plan.proofs.OftenNumbers.{period_range}
-use Rattle.ttx_plan.proofs.PlacedPages.{page_block, page_placed}
+use Rattle.ttx_plan.proofs.ServicePages.{page_block, page_placed}
 use Rattle.ttx_plan.proofs.SpreadPlaces.{weight, first_least_same, spread_more, counted_more, spread_else, counted_else}
 
 -- pages that are spread are at places in range

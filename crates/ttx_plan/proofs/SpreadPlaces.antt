@@ -1,7 +1,7 @@
 -- Blocks that take their places one after another: what each place changes, and what it does not change.
 use Rattle.std.proofs.Common.{◌≡◌, ℕ, zero, suc, ◌+◌, ◌/◌, ◌%◌, ◌<◌, Bool, true, false, cond, eqb, ltb}
 use Rattle.std.proofs.Common.{List, [], ◌∷◌, ◌++◌, length, set, take}
-use Rattle.std.proofs.Common.{get_or, Some, None, refl, sym, ap, ◌∙◌, subst, arith, inl, inr}
+use Rattle.std.proofs.Common.{get_or, Some, refl, sym, ap, ◌∙◌, subst, arith, inl, inr}
 use Rattle.std.specs.Prelude.{slice_get, filter, sum_by}
 use Rattle.std.proofs.lemmas.Bool.{cond-true, cond-false, cases_eq, eq-eqb, ne_eqb, le-ltb, or_from, and_left, and_right, both_ways}
 use Rattle.std.proofs.lemmas.List.{append-nil, append_assoc, take_more_set, get_or-set_same, get_or-set_other}

@@ -1,17 +1,15 @@
 -- Plans with spread places: what they carry, and when they are too long.
-use Rattle.std.proofs.Common.{◌≡◌, ℕ, ◌<◌, Bool, List, Ok, Err, subst, inl, inr}
-use Rattle.std.specs.Prelude.{◌↔◌, IfOk}
-use Rattle.std.proofs.lemmas.Bool.{cases_lt}
-use Rattle.ttx_cycle.specs.Cycles.{slots_of}
+use Rattle.std.proofs.Common.{◌≡◌, ℕ, ◌<◌, Bool, List, Err, subst}
+use Rattle.std.specs.Prelude.{◌↔◌}
 use Rattle.ttx_page.specs.declared.class.Class.{Class}
 use Rattle.ttx_source.specs.Services.{ServiceFields, IsService}
 use Rattle.ttx_plan.specs.declared.faults.PlanFault.TheVariants.{TooLong}
 use Rattle.ttx_plan.specs.Blocks.{sent_blocks, length_bound}
-use Rattle.ttx_plan.specs.Carries.{CarriesAt, blocks_sent_at}
-use Rattle.ttx_plan.specs.Spread.{IsSpread, IsSpreadPlan, IsTooLongSpread}
-use Rattle.ttx_plan.proofs.PlanFaults.{Answer, ok_is_other}
+use Rattle.ttx_plan.specs.Carries.{blocks_sent_at}
+use Rattle.ttx_plan.specs.Spread.{IsSpread, IsTooLongSpread}
+use Rattle.ttx_plan.proofs.PlanFaults.{Answer}
 use Rattle.ttx_plan.proofs.SpreadOnce.{spread_once}
-use Rattle.ttx_plan.proofs.PlacedPages.{each_often}
+use Rattle.ttx_plan.proofs.ServicePages.{each_often}
 
 abbrev IsLong : List ℕ → Bool → Class → ServiceFields → Type 0
 IsLong places late class service = 65536 < length_bound service.lines (blocks_sent_at places late class service.pages)

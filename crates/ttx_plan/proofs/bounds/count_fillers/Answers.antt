@@ -1,4 +1,4 @@
-use Rattle.std.proofs.Common.{◌≡◌, ◌+◌, ◌-◌, ◌<◌, ◌++◌, [], ◌&&◌, true, false, eqb, get_or, set, take, rules, refl, ap, sym, subst, ◌∙◌, arith}
+use Rattle.std.proofs.Common.{◌≡◌, ◌+◌, ◌-◌, ◌<◌, ◌++◌, [], ◌&&◌, eqb, get_or, set, take, rules, refl, ap, sym, subst, ◌∙◌, arith}
 use Rattle.ttx_page.specs.Views.{page_of}
 use Rattle.ttx_source.specs.Services.{authored_at}
 use Rattle.ttx_plan.specs.Blocks.{at_place, placed, rounds_to, round_of, with_fillers}

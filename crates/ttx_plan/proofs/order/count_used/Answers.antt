@@ -1,9 +1,8 @@
 use Rattle.std.proofs.Common.{rules, ◌+◌, map, length, sym, ap, ◌∙◌}
 use Rattle.ttx_plan.specs.Blocks.{has_pages, used_to}
 use Rattle.ttx_plan.specs.Seen.{seen_sent}
-use Rattle.ttx_plan.proofs.PickedBlocks.{used_next}
 use Rattle.ttx_plan.proofs.SubpageLists.{as_number}
-use Rattle.ttx_plan.proofs.UsedQueues.{any_seen}
+use Rattle.ttx_plan.proofs.UsedQueues.{any_seen, used_next}
 use Rattle.ttx_plan.proofs.order.count_used.Goals as goal
 
 pub loop-queue-preserved : goal.loop-queue-preserved

@@ -5,8 +5,7 @@ use Rattle.std.proofs.lemmas.Option.{slice_get-map, slice_get_read}
 use Rattle.ttx_plan.specs.Blocks.{with_fillers, led}
 use Rattle.ttx_plan.specs.Order.{picked}
 use Rattle.ttx_plan.specs.Seen.{seen, seen_sent}
-use Rattle.ttx_plan.proofs.PassedBlocks.{KeepsLatest, fillers_next, keeps_next, again_is}
-use Rattle.ttx_plan.proofs.PickedBlocks.{picked_next}
+use Rattle.ttx_plan.proofs.PassedBlocks.{KeepsLatest, fillers_next, keeps_next, again_is, picked_next}
 use Rattle.ttx_plan.proofs.order.sent_in_order.Goals as goal
 
 pub loop-index-preserved : goal.loop-index-preserved

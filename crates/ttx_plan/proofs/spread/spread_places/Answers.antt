@@ -3,7 +3,7 @@ use Rattle.ttx_plan.specs.Blocks.{placed}
 use Rattle.ttx_plan.specs.Carries.{blocks_of}
 use Rattle.ttx_plan.specs.Ranges.{IsOften}
 use Rattle.ttx_plan.specs.Spreading.{IsSpreadTo}
-use Rattle.ttx_plan.proofs.PlacedPages.{blocks_often, blocks_size, each_often}
+use Rattle.ttx_plan.proofs.ServicePages.{blocks_often, blocks_size, each_often}
 use Rattle.ttx_plan.proofs.OftenNumbers.{half_again}
 use Rattle.ttx_plan.proofs.SpreadPages.{spread_in_range}
 use Rattle.ttx_plan.proofs.SubpageLists.{zero_each}
