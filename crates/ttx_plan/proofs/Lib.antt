@@ -40,4 +40,3 @@ mod SpreadPlaces
 mod SpreadPasses
 mod SpreadPages
 mod SpreadOnce
-mod SpreadPlans

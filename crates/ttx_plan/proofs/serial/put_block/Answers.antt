@@ -1,8 +1,8 @@
-use Rattle.std.proofs.Common.{◌++◌, ◌∷◌, [], true, sym, subst}
+use Rattle.std.proofs.Common.{◌++◌, ◌∷◌, [], true}
 use Rattle.ttx_plan.specs.declared.packet.Slot.TheVariants.{Sent}
 use Rattle.ttx_plan.specs.Blocks.{time_filling_packet}
 use Rattle.ttx_plan.specs.Seen.{seen}
-use Rattle.ttx_plan.specs.Serial.{IsLaid, serial_page}
+use Rattle.ttx_plan.specs.Serial.{serial_page}
 use Rattle.ttx_plan.proofs.LaidSlots.{laid_same, if_ok, led_list, unled_list}
 use Rattle.ttx_plan.proofs.serial.put_block.Goals as goal
 use Rattle.ttx_plan.proofs.serial.put_block.Goals.{then-sent+in_ok-put, else-sent}

@@ -1,11 +1,9 @@
-use Rattle.std.proofs.Common.{◌++◌, ◌∷◌, [], ◌+◌, List, true, false, map, sym, ap, subst, ◌∙◌, arith, take_all}
+use Rattle.std.proofs.Common.{List, true, false, map, sym, ap, ◌∙◌, arith, take_all}
 use Rattle.std.specs.Prelude.{flat_map}
 use Rattle.std.proofs.lemmas.List.{append-nil}
 use Rattle.ttx_plan.specs.declared.packet.Slot.{Slot}
-use Rattle.ttx_plan.specs.declared.packet.Slot.TheVariants.{Sent}
-use Rattle.ttx_plan.specs.Blocks.{used_to, time_filling_packet}
 use Rattle.ttx_plan.specs.Seen.{seen_sent}
-use Rattle.ttx_plan.specs.Serial.{IsLaid, serial_block}
+use Rattle.ttx_plan.specs.Serial.{serial_block}
 use Rattle.ttx_plan.proofs.LaidSlots.{laid_same}
 use Rattle.ttx_plan.proofs.UsedQueues.{any_seen, used_more}
 use Rattle.ttx_plan.proofs.serial.serial_slots.Goals as goal
