@@ -1,8 +1,10 @@
 -- What holds for each element of a list.
 use Rattle.std.proofs.Common.{◌≡◌, ◌⊎◌, ℕ, zero, suc, Bool, true, false, cond, List, [], ◌∷◌, ◌++◌, map, replicate, Some, None, refl, sym, ap, ◌∙◌, subst, inl, inr}
+use Rattle.std.proofs.Common.{◌+◌, ◌<◌, eqb, length, get_or, set, arith, get_or-set_other}
+use Rattle.std.proofs.lemmas.Grind.{get_or-set_at}
 use Rattle.std.specs.Prelude.{slice_get, flat_map, filter}
 use Rattle.std.specs.List.{AllByRecursion, list_any}
-use Rattle.std.proofs.lemmas.Bool.{cond-true, cond_both, or_cases, or_left, or_right}
+use Rattle.std.proofs.lemmas.Bool.{cond-true, cond-false, cond_both, cases_eq, eq-eqb, ne_eqb, eqb-true, or_cases, or_left, or_right}
 use Rattle.std.proofs.lemmas.Option.{same_Some}
 
 pub all_append : {A : Type 0} (P : A → Type 0) (xs ys : List A) → AllByRecursion P xs → AllByRecursion P ys → AllByRecursion P (xs ++ ys)
@@ -91,3 +93,18 @@ pub has_any : {A : Type 0} (p : A → Bool) (xs : List A) (x : A) → Has x xs �
 has_any p [] x h e = absurd h
 has_any p (y ∷ xs) x (inl same) e = or_left (p y) (list_any p xs) (ap p (sym same) ∙ e)
 has_any p (y ∷ xs) x (inr h) e = or_right (p y) (list_any p xs) (has_any p xs x h e)
+
+-- a list of numbers with one of them changed
+pub set_cond : (xs : List ℕ) (i m v : ℕ) → i < length xs → get_or (set xs i v) m 0 ≡ cond (eqb i m) v (get_or xs m 0)
+set_cond xs i m v lt = elim (cases_eq i m) as (λ _. get_or (set xs i v) m 0 ≡ cond (eqb i m) v (get_or xs m 0)) [
+  | inl e ↦ get_or-set_at xs i m v 0 (sym e) lt ∙ sym (cond-true (eqb i m) v (get_or xs m 0) (eq-eqb i m e))
+  | inr ne ↦ get_or-set_other xs i m v 0 (λ q. ne (sym q)) ∙ sym (cond-false (eqb i m) v (get_or xs m 0) (ne_eqb i m ne))
+]
+
+-- a number raised by one
+pub raised : (xs : List ℕ) (i m s : ℕ) → i < length xs → get_or xs m 0 ≡ s → get_or (set xs i (get_or xs i 0 + 1)) m 0 ≡ cond (eqb i m) (suc s) s
+raised xs i m s lt was = set_cond xs i m (get_or xs i 0 + 1) lt ∙ by (eqb i m) (λ e. ap (λ k. get_or xs k 0) (eqb-true i m e))
+  where
+    by : (b : Bool) → (b ≡ true → get_or xs i 0 ≡ get_or xs m 0) → cond b (get_or xs i 0 + 1) (get_or xs m 0) ≡ cond b (suc s) s
+    by true h = omega (arith, h refl, was)
+    by false h = was

@@ -1,15 +1,16 @@
 -- The blocks that are sent, one by one, with the page number in the latest header of each queue.
 use Rattle.std.proofs.Common.{◌≡◌, ℕ, ◌+◌, ◌/◌, ◌%◌, ◌<◌, Bool, true, false, ◌&&◌, cond, eqb, List, [], ◌∷◌, ◌++◌, map, length, take}
-use Rattle.std.proofs.Common.{get_or, set, refl, sym, ap, ◌∙◌, subst, arith, inl, inr, append_assoc, append-nil}
+use Rattle.std.proofs.Common.{get_or, set, refl, sym, ap, ◌∙◌, subst, arith, append_assoc, append-nil}
 use Rattle.std.proofs.Common.{Some}
 use Rattle.std.specs.Prelude.{slice_get}
-use Rattle.std.proofs.lemmas.Bool.{cond-true, cond-false, cases_eq, eq-eqb, ne_eqb}
-use Rattle.std.proofs.lemmas.List.{get_or-set_same, get_or-set_other, length-set, map-append, take_more}
+use Rattle.std.proofs.lemmas.Bool.{cond-true, cond-false, eq-eqb, ne_eqb}
+use Rattle.std.proofs.lemmas.List.{length-set, map-append, take_more}
 use Rattle.std.proofs.lemmas.List.Elements.{filter-append}
 use Rattle.std.proofs.lemmas.List.Sums.{sum_by-append, sum_by-cons}
 use Rattle.ttx_plan.specs.Blocks.{Block, led, round_of, rounds_to, latest, with_fillers}
 use Rattle.ttx_plan.specs.declared.block.PageBlock.{PageBlock}
 use Rattle.ttx_plan.specs.Order.{some_block, picked}
+use Rattle.ttx_plan.proofs.ListElements.{set_cond}
 use Rattle.ttx_plan.specs.Seen.{seen, fillers_in}
 
 -- the blocks that have been passed, latest first
@@ -40,26 +41,9 @@ pub keeps_next : (pages : List ℕ) (blocks : List Block) (block : Block) → bl
     KeepsLatest (set pages block.queue block.page) (blocks ++ block ∷ [])
 keeps_next pages blocks block lt k = record {
   size = length-set pages block.queue block.page ∙ k.size;
-  kept = λ queue below. ap_latest queue (one queue below);
+  kept = λ queue below. set_cond pages block.queue queue block.page (omega (arith, k.size, lt))
+      ∙ ap (cond (eqb block.queue queue) block.page) (k.kept queue below) ∙ ap (latest queue) (sym (passed_next [] blocks block));
 }
-  where
-    ap_latest : (queue : ℕ) → get_or (set pages block.queue block.page) queue 0 ≡ latest queue (block ∷ passed [] blocks) →
-        get_or (set pages block.queue block.page) queue 0 ≡ latest queue (passed [] (blocks ++ block ∷ []))
-    ap_latest queue e = e ∙ ap (latest queue) (sym (passed_next [] blocks block))
-
-    one : (queue : ℕ) → queue < 8 → get_or (set pages block.queue block.page) queue 0
-        ≡ cond (eqb block.queue queue) block.page (latest queue (passed [] blocks))
-    one queue below = elim (cases_eq block.queue queue) as
-        (λ _. get_or (set pages block.queue block.page) queue 0
-        ≡ cond (eqb block.queue queue) block.page (latest queue (passed [] blocks))) [
-          | inl e ↦
-              ap (λ q. get_or (set pages block.queue block.page) q 0) (sym e)
-              ∙ get_or-set_same pages block.queue block.page 0 (omega (arith, k.size, lt))
-              ∙ sym (cond-true (eqb block.queue queue) block.page (latest queue (passed [] blocks)) (eq-eqb block.queue queue e))
-          | inr ne ↦
-              get_or-set_other pages block.queue queue block.page 0 (λ q. ne (sym q)) ∙ k.kept queue below
-              ∙ sym (cond-false (eqb block.queue queue) block.page (latest queue (passed [] blocks)) (ne_eqb block.queue queue ne))
-        ]
 
 pub again_is : (pages : List ℕ) (blocks : List Block) (block : Block) → block.queue < 8 → KeepsLatest pages blocks →
     eqb (get_or pages block.queue 0) block.page ≡ is_again blocks block

@@ -16,7 +16,7 @@ use Rattle.ttx_plan.specs.Carries.{blocks_of, blocks_sent_at}
 use Rattle.ttx_plan.specs.Following.{PlannedIsFollowed}
 use Rattle.ttx_plan.proofs.Alternating.{number_in, number, Alternates, IsOther, IsNumbered, header_number, alternates}
 use Rattle.ttx_plan.proofs.PlacedBlocks.{placed_all}
-use Rattle.ttx_plan.proofs.PlannedSlots.{IsPlannedOut, laid_out}
+use Rattle.ttx_plan.proofs.PlannedSlots.{IsPlannedLayout, laid_out}
 use Rattle.ttx_plan.proofs.QueueSlots.{of_queue}
 use Rattle.ttx_plan.proofs.ReadPackets.{LawsBelow, page_fields}
 use Rattle.ttx_plan.proofs.RepeatedHeaders.{its_slot, after}
@@ -42,7 +42,7 @@ numbered laws serial class (p ∷ pages) a = (
 )
 
 queue_alternates : LawsBelow → (places : List ℕ) (class : Class) (service : ServiceFields) (cycle : List (List ℕ))
-    (l : IsPlannedOut places true class service cycle) → All (IsAuthored service.serial) service.pages → (queue : ℕ) → queue < 8 →
+    (l : IsPlannedLayout places true class service cycle) → All (IsAuthored service.serial) service.pages → (queue : ℕ) → queue < 8 →
     Alternates (of_queue queue l.slots)
 queue_alternates laws places class service cycle l a queue lt =
     let blocks = placed places (blocks_of class service.pages) in

@@ -25,7 +25,7 @@ use Rattle.ttx_plan.specs.Serial.{serial_slots}
 use Rattle.ttx_plan.specs.Turns.{missing}
 use Rattle.ttx_plan.proofs.ListElements.{Has, has_get}
 use Rattle.ttx_plan.proofs.PlacedBlocks.{placed_has, in_its_round}
-use Rattle.ttx_plan.proofs.QueueBlocks.{IsPageBlock, Heads, UpToHeader, Tails, sent_are_blocks, queue_led}
+use Rattle.ttx_plan.proofs.QueueBlocks.{IsPageBlock, HeadsOwn, UpToHeader, Tails, sent_are_blocks, queue_led}
 use Rattle.ttx_plan.proofs.QueueSlots.{heads, of_queue, queue_filled, serial_queue, parallel_queue, timed, timed_bytes}
 use Rattle.ttx_plan.proofs.ReadPackets.{LawsBelow, Reads, heads_fit}
 use Rattle.ttx_plan.proofs.ReadSlots.{serial_read, parallel_read, read_there}
@@ -70,12 +70,12 @@ laid laws false lines info class pages sent cycle said blocks carries =
     empties zero = refl
     empties (suc n) = ap (λ z. bytes_of Empty ∷ z) (empties n)
 
-abbrev pub IsPlannedOut : List ℕ → Bool → Class → ServiceFields → List (List ℕ) → Type 0
-IsPlannedOut places late class service cycle =
+abbrev pub IsPlannedLayout : List ℕ → Bool → Class → ServiceFields → List (List ℕ) → Type 0
+IsPlannedLayout places late class service cycle =
     IsLaidOut service.pages service.serial service.lines class (blocks_sent_at places late class service.pages) cycle
 
 pub laid_out : LawsBelow → (places : List ℕ) (late : Bool) (class : Class) (service : ServiceFields) (cycle : List (List ℕ)) → IsService service →
-    IsSaid service.info → CarriesAt places late class service cycle → IsPlannedOut places late class service cycle
+    IsSaid service.info → CarriesAt places late class service cycle → IsPlannedLayout places late class service cycle
 laid_out laws places late class service cycle is said carries =
     laid laws service.serial service.lines service.info class service.pages (blocks_sent_at places late class service.pages) cycle said
     (sent_are_blocks service.serial places late class service.pages is.pages) carries
@@ -101,8 +101,8 @@ module _ (pages : List Authored) (serial : Bool) (lines : ℕ) (class : Class) (
       ∙ heads_fit pages serial (get_or l.slots i Empty) _ (l.reads i).fits queue
 
   -- the packets of a queue
-  pub slots_led : (queue : ℕ) → queue < 8 → UpToHeader (λ p. ⊥) (of_queue queue l.slots) × Tails (Heads pages serial class queue) (of_queue queue l.slots)
-  slots_led queue lt = subst (λ x. UpToHeader (λ p. ⊥) x × Tails (Heads pages serial class queue) x) (sym (l.in_queue queue lt))
+  pub slots_led : (queue : ℕ) → queue < 8 → UpToHeader (λ p. ⊥) (of_queue queue l.slots) × Tails (HeadsOwn pages serial class queue) (of_queue queue l.slots)
+  slots_led queue lt = subst (λ x. UpToHeader (λ p. ⊥) x × Tails (HeadsOwn pages serial class queue) x) (sym (l.in_queue queue lt))
       (queue_led pages serial class queue sent l.blocks)
 
 -- each page has a block among those that are sent

@@ -116,8 +116,8 @@ pub record HeadsBlock (pages : List Authored) (serial : Bool) (class : Class) (q
   pub brings : (bytes : List ℕ) → Has bytes rest → Brings (λ p. p.bytes ≡ bytes) ps
 
 -- no row and no X/27/0 comes after a time-filling header
-abbrev pub Heads : List Authored → Bool → Class → ℕ → Packet → List Packet → Type 0
-Heads pages serial class queue h ps = is_row_or_links h.kind ≡ false →
+abbrev pub HeadsOwn : List Authored → Bool → Class → ℕ → Packet → List Packet → Type 0
+HeadsOwn pages serial class queue h ps = is_row_or_links h.kind ≡ false →
     ((h ≡ time_filling_packet serial queue) × UpToHeader (λ p. ⊥) ps) ⊎ HeadsBlock pages serial class queue h ps
 
 apart : true ≡ false → ⊥
@@ -131,7 +131,7 @@ rows_tail P row (x ∷ rows) ps a = (row x (map rest_packet rows ++ ps), rows_ta
 
 module _ (pages : List Authored) (serial : Bool) (class : Class) (queue : ℕ) where
   abbrev IsLed : List Packet → Type 0
-  IsLed ps = UpToHeader (λ p. ⊥) ps × Tails (Heads pages serial class queue) ps
+  IsLed ps = UpToHeader (λ p. ⊥) ps × Tails (HeadsOwn pages serial class queue) ps
 
   rows_own : (whole rows : List (List ℕ)) (ps : List Packet) → ((x : List ℕ) → Has x rows → Has x whole) → UpToHeader (λ p. ⊥) ps →
       UpToHeader (λ p. Has p.bytes whole) (map rest_packet rows ++ ps)
@@ -162,7 +162,7 @@ module _ (pages : List Authored) (serial : Bool) (class : Class) (queue : ℕ) w
             own = rows_own block.rest block.rest ps (λ x h. h) more.0;
             brings = λ bytes h. rows_brought bytes block.rest ps h;
           }),
-          rows_tail (Heads pages serial class queue) (λ x ps early. absurd (apart early)) block.rest ps more.1,
+          rows_tail (HeadsOwn pages serial class queue) (λ x ps early. absurd (apart early)) block.rest ps more.1,
         ),
       ))
 

@@ -22,7 +22,7 @@ use Rattle.ttx_plan.specs.Contents.{page_header_bytes}
 use Rattle.ttx_plan.specs.Laws.{PlannedIsSure}
 use Rattle.ttx_plan.proofs.ListElements.{Has}
 use Rattle.ttx_plan.specs.Packets.{is_row_or_links, bytes_of}
-use Rattle.ttx_plan.proofs.PlannedSlots.{IsPlannedOut, laid_out, bytes_at, heads_at, sent_within, sent_block}
+use Rattle.ttx_plan.proofs.PlannedSlots.{IsPlannedLayout, laid_out, bytes_at, heads_at, sent_within, sent_block}
 use Rattle.ttx_plan.proofs.QueueBlocks.{Brings, queue_has}
 use Rattle.ttx_plan.proofs.QueueSlots.{heads as slot_heads, of_queue}
 use Rattle.ttx_plan.proofs.ReadPackets.{LawsBelow}
@@ -95,7 +95,7 @@ planned_is_sure laws places late class service cycle is said carries some page T
 -- a header of a page, and what comes after it
 
 module _ (laws : LawsBelow) (places : List ℕ) (late : Bool) (class : Class) (service : ServiceFields) (cycle : List (List ℕ))
-    (l : IsPlannedOut places late class service cycle) (some : 0 < length cycle) (own : Authored) (a : IsAuthored service.serial own)
+    (l : IsPlannedLayout places late class service cycle) (some : 0 < length cycle) (own : Authored) (a : IsAuthored service.serial own)
     (h : ℤ) (is : heads_page own.page.id (packet_of (repeated cycle h)) ≡ true) where
   pub record IsSlotOf (packet : Packet) : Type 0 where
     pub at : get_or l.slots (turned (length cycle) h) Empty ≡ Sent (own.page.id.mag - 1) packet

@@ -15,8 +15,8 @@ use Rattle.ttx_plan.specs.Contents.{page_header_bytes, rest_of}
 use Rattle.ttx_plan.specs.Laws.{PlannedHeadersAreOwn, PlannedIsClean}
 use Rattle.ttx_plan.specs.Packets.{is_page_header, is_row_or_links, bytes_of}
 use Rattle.ttx_plan.proofs.ListElements.{Has}
-use Rattle.ttx_plan.proofs.PlannedSlots.{IsPlannedOut, laid_out, bytes_at, heads_at, slots_led}
-use Rattle.ttx_plan.proofs.QueueBlocks.{Heads, HeadsBlock}
+use Rattle.ttx_plan.proofs.PlannedSlots.{IsPlannedLayout, laid_out, bytes_at, heads_at, slots_led}
+use Rattle.ttx_plan.proofs.QueueBlocks.{HeadsOwn, HeadsBlock}
 use Rattle.ttx_plan.proofs.QueueSlots.{heads, of_queue}
 use Rattle.ttx_plan.proofs.ReadPackets.{LawsBelow, Fits, page_fields, header_is, late_fit, untainted}
 use Rattle.ttx_plan.proofs.SlotsAfterHeaders.{header_of, latest_before, tail_at, before_header, after_header}
@@ -56,7 +56,7 @@ pub record IsUnderPage (service : ServiceFields) (class : Class) (cycle : List (
   pub untainted : (i : ℕ) → header < i → i < n → S.ends_serial mag (packet_of (get_or cycle i [])) ≡ false
 
 module _ (laws : LawsBelow) (places : List ℕ) (late : Bool) (class : Class) (service : ServiceFields) (cycle : List (List ℕ))
-    (l : IsPlannedOut places late class service cycle) where
+    (l : IsPlannedLayout places late class service cycle) where
   under_block : (n queue i : ℕ) (h p : Packet) → n < length cycle → get_or l.slots n Empty ≡ Sent queue p → is_row_or_links p.kind ≡ true → i < n →
       get_or l.slots i Empty ≡ Sent queue h → ((k : ℕ) → i < k → k < n → heads queue (get_or l.slots k Empty) ≡ false) →
       HeadsBlock service.pages service.serial class queue h (of_queue queue (drop (suc i) l.slots)) → IsUnderPage service class cycle n (suc queue)
@@ -101,7 +101,7 @@ module _ (laws : LawsBelow) (places : List ℕ) (late : Bool) (class : Class) (s
         | inl none ↦ absurd (before_header f.queue (λ p. ⊥) l.slots n f.packet led.0 f.slot_is f.late none)
         | inr a ↦
             let h = header_of f.queue (get_or l.slots a.place Empty) a.is_header in
-            elim (tail_at f.queue (Heads service.pages service.serial class f.queue) l.slots a.place h.packet led.1 h.is h.early) as
+            elim (tail_at f.queue (HeadsOwn service.pages service.serial class f.queue) l.slots a.place h.packet led.1 h.is h.early) as
             (λ _. IsUnderPage service class cycle n (suc f.queue)) [
               | inl filling ↦ absurd (after_header f.queue (λ p. ⊥) l.slots a.place n f.packet filling.1 a.earlier f.slot_is f.late a.none_between)
               | inr b ↦ under_block n f.queue a.place h.packet f.packet lt f.slot_is f.late a.earlier h.is a.none_between b

@@ -21,8 +21,8 @@ use Rattle.ttx_plan.specs.WholeBlocks.{PlannedBlocksAreWhole}
 use Rattle.ttx_plan.proofs.ListElements.{Has}
 use Rattle.ttx_plan.proofs.OwnRows.{links_are}
 use Rattle.ttx_plan.proofs.PageRests.{row_in_rest, links_in_rest}
-use Rattle.ttx_plan.proofs.PlannedSlots.{IsPlannedOut, laid_out, slots_led}
-use Rattle.ttx_plan.proofs.QueueBlocks.{Heads}
+use Rattle.ttx_plan.proofs.PlannedSlots.{IsPlannedLayout, laid_out, slots_led}
+use Rattle.ttx_plan.proofs.QueueBlocks.{HeadsOwn}
 use Rattle.ttx_plan.proofs.ReadPackets.{LawsBelow, header_is, filling_fields, row_is}
 use Rattle.ttx_plan.proofs.RepeatedHeaders.{IsAfter, its_slot, after, has_header}
 use Rattle.ttx_plan.proofs.ServicePages.{authored_is, page_there}
@@ -44,7 +44,7 @@ row_numbers p r e =
 module _ (laws : LawsBelow) (written : WrittenLinksAreRead) (late : Bool) (class : Class) (service : ServiceFields) (cycle : List (List ℕ))
     (c : IsPlanned late class service cycle) (index : ℕ) (own : Authored) (listed : slice_get service.pages index ≡ Some own) (h : ℤ)
     (is : heads_page own.page.id (packet_of (repeated cycle h)) ≡ true) where
-  l : IsPlannedOut c.places late class service cycle
+  l : IsPlannedLayout c.places late class service cycle
   l = laid_out laws c.places late class service cycle c.service_is c.said c.carries
 
   a : IsAuthored service.serial own
@@ -57,7 +57,7 @@ module _ (laws : LawsBelow) (written : WrittenLinksAreRead) (late : Bool) (class
       let small : own.page.id.mag - 1 < 8 = omega (arith, a.page.id.mag_from, a.page.id.mag_to) in
       let s = its_slot laws c.places late class service cycle l c.some own a h is in
       let bytes_are : heads_page own.page.id (packet_of s.0.bytes) ≡ true = ap (λ x. heads_page own.page.id (packet_of x)) (sym s.1.same) ∙ is in
-      elim (tail_at queue (Heads service.pages service.serial class queue) l.slots (turned (length cycle) h) s.0
+      elim (tail_at queue (HeadsOwn service.pages service.serial class queue) l.slots (turned (length cycle) h) s.0
       (slots_led _ _ _ _ _ cycle l queue small).1 s.1.at s.1.early)
       as (λ _. IsAfter laws c.places late class service cycle l c.some own a h is (λ p. p.bytes ≡ bytes)) [
         | inl filling ↦ absurd (a.page.page (ap (λ x. x.page) (same_is own.page.id _
