@@ -32,7 +32,8 @@ use Rattle.ttx_certify.proofs.LaterReceptions.{received_later}
 use Rattle.ttx_late.proofs.FollowedReceptions.{mag_is, number_is, AreOf, of_received, all_end, received_before}
 
 -- a header of a page is matched by each selection that matches the page
-pub page_matched : (sel : Selection) (page : Id) → matches sel page ≡ true → (pkt : Packet) → heads_page page pkt ≡ true → heads_matched sel pkt ≡ true
+pub page_matched : (sel : Selection) (page : Id) → matches sel page ≡ true → (pkt : Packet) → heads_page page pkt ≡ true →
+    heads_matched sel pkt ≡ true
 page_matched sel page fits (Header id control text) h =
     let mag = eqb-true page.mag id.mag ((and_parts _ _ (and_parts _ _ h).0).0) in
     let number = eqb-true page.page id.page ((and_parts (page.mag == id.mag) _ (and_parts _ _ h).0).1) in

@@ -103,7 +103,8 @@ module _ (laws : LawsBelow) (serial : Bool) (queue : ℕ) (lt : queue < 8) (used
       next = flat_map own (with_fillers true (block ∷ before) blocks) ++ filling
 
       page : eqb block.queue queue ≡ true → Alternates next →
-          Alternates (header_packet block.header ∷ ((map rest_packet block.rest ++ flat_map own (with_fillers true (block ∷ before) blocks)) ++ filling))
+          Alternates (header_packet block.header
+          ∷ ((map rest_packet block.rest ++ flat_map own (with_fillers true (block ∷ before) blocks)) ++ filling))
       page e again = subst (λ z. Alternates (header_packet block.header ∷ z))
           (sym (append_assoc (map rest_packet block.rest) (flat_map own (with_fillers true (block ∷ before) blocks)) filling)) (
             λ early ne.

@@ -38,7 +38,8 @@ at_most_half n m o p = by_often (λ k. m < k → m ≤ k / 2) (λ lt. absurd (om
 
 -- the next pass: half as often, or the last one
 pub half_again : (n : ℕ) → IsOften n → (n / 2 ≡ 0) ⊎ IsOften (n / 2)
-half_again = by_often (λ n. (n / 2 ≡ 0) ⊎ IsOften (n / 2)) (inl refl) (inr (often_ranges 1 refl)) (inr (often_ranges 2 refl)) (inr (often_ranges 4 refl))
+half_again = by_often (λ n. (n / 2 ≡ 0) ⊎ IsOften (n / 2)) (inl refl)
+    (inr (often_ranges 1 refl)) (inr (often_ranges 2 refl)) (inr (often_ranges 4 refl))
 
 -- the number of rounds from which a page takes its place
 pub period_range : (n : ℕ) → IsOften n → (1 ≤ 8 / n) × (8 / n ≤ 8)

@@ -33,7 +33,8 @@ has_row class p (suc n) r from to e =
       | inr le ↦ has_left (page_row_bytes p r) (sent_rows class p n) last (has_row class p n r from le e)
     ]
 
-pub row_in_rest : (class : Class) (p : Page) (r : ℕ) → 1 ≤ r → r ≤ 24 → is_sent_to class p (TheRow r) ≡ true → Has (page_row_bytes p r) (rest_of class p)
+pub row_in_rest : (class : Class) (p : Page) (r : ℕ) → 1 ≤ r → r ≤ 24 → is_sent_to class p (TheRow r) ≡ true →
+    Has (page_row_bytes p r) (rest_of class p)
 row_in_rest class p r from to e = has_left (page_row_bytes p r) (sent_rows class p 24) _ (has_row class p 24 r from to e)
 
 pub links_in_rest : (class : Class) (p : Page) → is_sent_to class p TheLinks ≡ true → Has (page_links_bytes p) (rest_of class p)

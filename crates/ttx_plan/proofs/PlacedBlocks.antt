@@ -23,7 +23,8 @@ placed_all P moves [] blocks a = a
 placed_all P moves (place ∷ places) [] a = tt
 placed_all P moves (place ∷ places) (block ∷ blocks) a = (moves place block a.0, placed_all P moves places blocks a.1)
 
-pub placed_has : (places : List ℕ) (blocks : List Block) (block : Block) → Has block blocks → (place : ℕ) × Has (at_place place block) (placed places blocks)
+pub placed_has : (places : List ℕ) (blocks : List Block) (block : Block) → Has block blocks →
+    (place : ℕ) × Has (at_place place block) (placed places blocks)
 placed_has [] blocks block h = (block.place, h)
 placed_has (place ∷ places) [] block h = absurd h
 placed_has (place ∷ places) (b ∷ blocks) block (inl e) = (place, inl (ap (at_place place) e))

@@ -81,5 +81,6 @@ planned_is_followed laws class service cycle c n p e =
     record {
       slot = f.slot;
       next = f.latest;
-      another = another_is own.page.id (packet_of (repeated cycle f.slot)) (f.heads_it f.is_it.0) (λ q. f.is_it.1 (ap number (sym f.same) ∙ q ∙ sym own_number));
+      another = another_is own.page.id (packet_of (repeated cycle f.slot)) (f.heads_it f.is_it.0)
+          (λ q. f.is_it.1 (ap number (sym f.same) ∙ q ∙ sym own_number));
     })

@@ -101,7 +101,8 @@ module _ (pages : List Authored) (serial : Bool) (lines : ℕ) (class : Class) (
       ∙ heads_fit pages serial (get_or l.slots i Empty) _ (l.reads i).fits queue
 
   -- the packets of a queue
-  pub slots_led : (queue : ℕ) → queue < 8 → UpToHeader (λ p. ⊥) (of_queue queue l.slots) × Tails (HeadsOwn pages serial class queue) (of_queue queue l.slots)
+  pub slots_led : (queue : ℕ) → queue < 8 → UpToHeader (λ p. ⊥) (of_queue queue l.slots)
+      × Tails (HeadsOwn pages serial class queue) (of_queue queue l.slots)
   slots_led queue lt = subst (λ x. UpToHeader (λ p. ⊥) x × Tails (HeadsOwn pages serial class queue) x) (sym (l.in_queue queue lt))
       (queue_led pages serial class queue sent l.blocks)
 

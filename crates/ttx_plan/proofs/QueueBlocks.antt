@@ -7,7 +7,8 @@ use Rattle.std.proofs.lemmas.Bool.{cond-true, eq-eqb, eqb-true}
 use Rattle.ttx_page.specs.declared.class.Class.{Class}
 use Rattle.ttx_source.specs.Services.{Authored, IsAuthored}
 use Rattle.ttx_plan.specs.declared.packet.Packet.{Packet}
-use Rattle.ttx_plan.specs.Blocks.{Block, header_packet, rest_packet, filler_of, page_packets, packets_of, placed, has_pages, time_filling_packet, queue_packets}
+use Rattle.ttx_plan.specs.Blocks.{Block, header_packet, rest_packet, filler_of, page_packets, packets_of, placed, has_pages, time_filling_packet}
+use Rattle.ttx_plan.specs.Blocks.{queue_packets}
 use Rattle.ttx_plan.specs.Carries.{blocks_of, blocks_sent_at}
 use Rattle.ttx_plan.specs.Contents.{page_header_bytes, rest_of}
 use Rattle.ttx_plan.specs.Packets.{is_row_or_links}
@@ -124,7 +125,8 @@ apart : true ≡ false → ⊥
 apart e = cc
 
 -- rows and X/27/0 in front
-pub rows_tail : (P : Packet → List Packet → Type 0) → ((x : List ℕ) (ps : List Packet) → P (rest_packet x) ps) → (rows : List (List ℕ)) (ps : List Packet) →
+pub rows_tail : (P : Packet → List Packet → Type 0) → ((x : List ℕ) (ps : List Packet) → P (rest_packet x) ps) →
+    (rows : List (List ℕ)) (ps : List Packet) →
     Tails P ps → Tails P (map rest_packet rows ++ ps)
 rows_tail P row [] ps a = a
 rows_tail P row (x ∷ rows) ps a = (row x (map rest_packet rows ++ ps), rows_tail P row rows ps a)

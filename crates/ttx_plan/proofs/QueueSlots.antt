@@ -167,7 +167,8 @@ in_order mags (slot ∷ before) t m =
     flat_map-append (held m) (timed before) (slot ∷ []) ∙ ap (λ z. z ++ (held m slot ++ [])) (in_order mags before t.1 m)
     ∙ next slot (subst (IsFrom mags before) (sym t.0) (turn_from_queues mags before))
   where
-    next : (s : Slot) → IsFrom mags before s → take (sent_by m before) (queue_of mags m) ++ (held m s ++ []) ≡ take (sent_by m (s ∷ before)) (queue_of mags m)
+    next : (s : Slot) → IsFrom mags before s → take (sent_by m before) (queue_of mags m) ++ (held m s ++ [])
+        ≡ take (sent_by m (s ∷ before)) (queue_of mags m)
     next Empty from = append-nil _
     next (Info bytes) from = append-nil _
     next (Sent mag packet) from = elim (cases_eq mag m) as (λ _. take (sent_by m before) (queue_of mags m) ++ (held m (Sent mag packet) ++ [])
@@ -189,7 +190,8 @@ queue_at_is blocks (suc (suc (suc (suc (suc (suc (suc zero))))))) lt = refl
 queue_at_is blocks (suc (suc (suc (suc (suc (suc (suc (suc m)))))))) lt = absurd (omega arith)
 
 pub parallel_queue : (lines : ℕ) (info : Option (List ℕ)) (sent : List Block) (cycle : List (List ℕ))
-    (p : IsParallel (magazines_for lines info sent) cycle) → (queue : ℕ) → queue < 8 → of_queue queue (timed p.before) ≡ queue_packets false sent queue
+    (p : IsParallel (magazines_for lines info sent) cycle) → (queue : ℕ) → queue < 8 →
+    of_queue queue (timed p.before) ≡ queue_packets false sent queue
 parallel_queue lines info sent cycle p queue lt =
     in_order (magazines_for lines info sent) p.before p.turns queue
     ∙ ap (λ n. take n (queue_of (magazines_for lines info sent) queue)) (p.all_sent queue lt)

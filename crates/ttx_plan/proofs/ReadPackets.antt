@@ -2,7 +2,8 @@
 use Rattle.std.proofs.Common.{◌≡◌, ℕ, suc, ◌-◌, ◌<◌, ◌≤◌, Bool, true, false, not, ◌&&◌, ◌||◌, eqb, leb, List, map, replicate, Some}
 use Rattle.std.proofs.Common.{refl, sym, ap, ◌∙◌, inl, inr, arith, subst}
 use Rattle.std.specs.Prelude.{slice_get, slice_index, slice_range, drop, take}
-use Rattle.std.proofs.lemmas.Bool.{cond-true, cond-false, cases_eq, cases_Bool, eq-eqb, ne_eqb, eqb-true, le-leb, and_parts, and_from, and_left, and_right}
+use Rattle.std.proofs.lemmas.Bool.{cond-true, cond-false, cases_eq, cases_Bool, eq-eqb, ne_eqb, eqb-true, le-leb, and_parts, and_from, and_left}
+use Rattle.std.proofs.lemmas.Bool.{and_right}
 use Rattle.std.proofs.lemmas.Bool.{or_right, or_left}
 use Rattle.std.proofs.lemmas.List.{length-map}
 use Rattle.ttx_code.specs.Laws.{WordsAreRead, WordsAreWords}
@@ -102,7 +103,8 @@ module _ (pages : List Authored) (serial : Bool) (slot : Slot) where
   late_fit item x f mag c = absurd (apart c)
 
   -- a header ends pages of other magazines in serial transmission only
-  pub untainted : (x : P.Packet) → Fits pages serial slot x → (serial ≡ true → (m : ℕ) → heads m slot ≡ false) → (mag : ℕ) → S.ends_serial mag x ≡ false
+  pub untainted : (x : P.Packet) → Fits pages serial slot x → (serial ≡ true → (m : ℕ) → heads m slot ≡ false) → (mag : ℕ) →
+      S.ends_serial mag x ≡ false
   untainted (P.Header id control text) f off mag = elim (cases_Bool serial) as (λ _. (not (eqb id.mag mag) && c11 control) ≡ false) [
     | inl is ↦ absurd (apart (sym (off is f.queue) ∙ ap (heads f.queue) f.slot_is
         ∙ and_from (eqb f.queue f.queue) _ (eq-eqb f.queue f.queue refl) (ap not f.early)))
@@ -178,14 +180,16 @@ filling_fields serial queue lt = record {
 pub page_header_slot : LawsBelow → (pages : List Authored) (serial : Bool) (index : ℕ) (authored : Authored) → slice_get pages index ≡ Some authored →
     IsAuthored serial authored → Reads pages serial (Sent (authored.page.id.mag - 1) (header_packet (page_header_bytes authored.page)))
 page_header_slot laws pages serial index authored listed a =
-    header_slot laws pages serial (authored.page.id.mag - 1) (header_packet (page_header_bytes authored.page)) _ (page_fields serial authored a) refl refl
+    header_slot laws pages serial (authored.page.id.mag - 1) (header_packet (page_header_bytes authored.page)) _
+    (page_fields serial authored a) refl refl
     (omega (arith, a.page.id.mag_from)) a.c11
     (λ text e. inr (record { index = index; authored = authored; listed = listed; id_is = refl; control_is = refl; text_is = e }))
 
 pub filling_slot : LawsBelow → (pages : List Authored) (serial : Bool) (queue : ℕ) → queue < 8 →
     Reads pages serial (Sent queue (time_filling_packet serial queue))
 filling_slot laws pages serial queue lt =
-    header_slot laws pages serial queue (time_filling_packet serial queue) (time_filling (suc queue) serial) (filling_fields serial queue lt) refl refl refl
+    header_slot laws pages serial queue (time_filling_packet serial queue) (time_filling (suc queue) serial)
+    (filling_fields serial queue lt) refl refl refl
     (by serial) (λ text e. inl refl)
   where
     by : (b : Bool) → c11 (time_filling (suc queue) b).control ≡ b
@@ -205,7 +209,8 @@ addressed_clean slot number words e ne links =
     or_right (is_empty slot) _ (and_from _ _
     (and_from _ _ words (not_or (eqb (read_number slot) 0) _ (ne_eqb (read_number slot) 0 (λ z. ne (sym e ∙ z))))) links)
 
-late_slot : (pages : List Authored) (serial : Bool) (p : Page) → IsPage p → (bytes : List ℕ) → is_clean bytes ≡ true → (x : P.Packet) → packet_of bytes ≡ x →
+late_slot : (pages : List Authored) (serial : Bool) (p : Page) → IsPage p → (bytes : List ℕ) → is_clean bytes ≡ true → (x : P.Packet) →
+    packet_of bytes ≡ x →
     (IsLateOf p.id.mag (Sent (p.id.mag - 1) (rest_packet bytes)) → Fits pages serial (Sent (p.id.mag - 1) (rest_packet bytes)) x) →
     Reads pages serial (Sent (p.id.mag - 1) (rest_packet bytes))
 late_slot pages serial p is bytes clean x e fit = record {

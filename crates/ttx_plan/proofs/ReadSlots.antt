@@ -109,7 +109,8 @@ module _ (laws : LawsBelow) (pages : List Authored) (class : Class) where
       sent all
 
   turns_read : (lines : ℕ) (info : Option InfoFields) → IsSaid info → (sent : List Block) → AllByRecursion (IsPageBlock pages false class) sent →
-      (before : List Slot) → KeepsTurns (magazines_for lines (option_map info_bytes info) sent) before → AllByRecursion (Reads pages false) (timed before)
+      (before : List Slot) → KeepsTurns (magazines_for lines (option_map info_bytes info) sent) before →
+      AllByRecursion (Reads pages false) (timed before)
   turns_read lines info said sent all [] t = tt
   turns_read lines info said sent all (slot ∷ before) t =
       let mags = magazines_for lines (option_map info_bytes info) sent in
@@ -123,7 +124,8 @@ module _ (laws : LawsBelow) (pages : List Authored) (class : Class) where
           all_get (λ p. Reads pages false (Sent queue p)) (queue_packets false sent queue) (sent_by queue before) packet
           (queue_read sent all queue from.0) (subst (λ x. slice_get x (sent_by queue before) ≡ Some packet) (queue_at_is sent queue from.0) from.1)
 
-  pub parallel_read : (lines : ℕ) (info : Option InfoFields) → IsSaid info → (sent : List Block) → AllByRecursion (IsPageBlock pages false class) sent →
+  pub parallel_read : (lines : ℕ) (info : Option InfoFields) → IsSaid info → (sent : List Block) →
+      AllByRecursion (IsPageBlock pages false class) sent →
       (before : List Slot) (n : ℕ) → KeepsTurns (magazines_for lines (option_map info_bytes info) sent) before →
       AllByRecursion (Reads pages false) (timed before ++ replicate n Empty)
   parallel_read lines info said sent all before n t =

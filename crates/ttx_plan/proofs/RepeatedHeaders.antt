@@ -85,12 +85,12 @@ pub planned_is_sure : LawsBelow → PlannedIsSure
 planned_is_sure laws places late class service cycle is said carries some page TheHead h j owned = tt
 planned_is_sure laws places late class service cycle is said carries some page (TheRow r) h j owned =
     let t = laws.turn (length cycle) j some in
-    sure_here service class cycle page.mag h j t (under laws places late class service cycle (laid_out laws places late class service cycle is said carries)
-    (turned (length cycle) j) t.inside page.mag (TheRow r) owned.2) owned.0
+    sure_here service class cycle page.mag h j t (under laws places late class service cycle
+    (laid_out laws places late class service cycle is said carries) (turned (length cycle) j) t.inside page.mag (TheRow r) owned.2) owned.0
 planned_is_sure laws places late class service cycle is said carries some page TheLinks h j owned =
     let t = laws.turn (length cycle) j some in
-    sure_here service class cycle page.mag h j t (under laws places late class service cycle (laid_out laws places late class service cycle is said carries)
-    (turned (length cycle) j) t.inside page.mag TheLinks owned.2) owned.0
+    sure_here service class cycle page.mag h j t (under laws places late class service cycle
+    (laid_out laws places late class service cycle is said carries) (turned (length cycle) j) t.inside page.mag TheLinks owned.2) owned.0
 
 -- a header of a page, and what comes after it
 

@@ -73,7 +73,8 @@ module _ (queue : ℕ) where
   passed R (Info bytes) ps off a = a
   passed R (Sent m p) ps off a = by (eqb m queue) (is_row_or_links p.kind) refl off a
     where
-      by : (mine late : Bool) → is_row_or_links p.kind ≡ late → (mine && not late) ≡ false → UpToHeader R (cond mine (p ∷ []) [] ++ ps) → UpToHeader R ps
+      by : (mine late : Bool) → is_row_or_links p.kind ≡ late → (mine && not late) ≡ false → UpToHeader R (cond mine (p ∷ []) [] ++ ps) →
+          UpToHeader R ps
       by true true e off a = (a e).1
       by true false e off a = cc
       by false late e off a = a

@@ -1,5 +1,6 @@
 -- Each row and X/27/0 comes more than a field after its header. In a serial cycle no header of any magazine comes between.
-use Rattle.std.proofs.Common.{◌≡◌, ℕ, zero, suc, ◌+◌, ◌-◌, ◌<◌, Bool, true, false, not, ◌&&◌, cond, eqb, List, [], ◌∷◌, ◌++◌, map, length, take, get_or, replicate}
+use Rattle.std.proofs.Common.{◌≡◌, ℕ, zero, suc, ◌+◌, ◌-◌, ◌<◌, Bool, true, false, not, ◌&&◌, cond, eqb, List, [], ◌∷◌, ◌++◌, map, length, take}
+use Rattle.std.proofs.Common.{get_or, replicate}
 use Rattle.std.proofs.Common.{Option, Some, None, drop, refl, sym, ap, ◌∙◌, subst, inl, inr, arith, append_assoc}
 use Rattle.std.specs.Prelude.{flat_map}
 use Rattle.std.specs.List.{list_any}
@@ -99,7 +100,8 @@ module _ (lines : ℕ) where
             (fields_follow block.queue 1 lines (rows ++ slots) (rows_follow block.queue (1 + lines) block.rest slots (omega arith) f)),
       )
 
-      by : (b : Bool) → FollowsAny ((map (Sent block.queue) (cond b (time_filling_packet true block.queue ∷ []) []) ++ serial_page lines block) ++ slots)
+      by : (b : Bool) →
+          FollowsAny ((map (Sent block.queue) (cond b (time_filling_packet true block.queue ∷ []) []) ++ serial_page lines block) ++ slots)
       by true mag age = (λ late. absurd (apart (sym late)), page block.queue 1)
       by false mag age = page mag age
 
@@ -113,7 +115,8 @@ module _ (lines : ℕ) where
   fillers_follow [] mag age = tt
   fillers_follow (m ∷ queues) mag age = (λ late. absurd (apart (sym late)), fillers_follow queues m 1)
 
-  informed_follows : (info : Option (List ℕ)) (mag age at : ℕ) (slots : List Slot) → Follows mag age slots → Follows mag age (with_info lines info at slots)
+  informed_follows : (info : Option (List ℕ)) (mag age at : ℕ) (slots : List Slot) → Follows mag age slots →
+      Follows mag age (with_info lines info at slots)
   informed_follows info mag age at [] f = tt
   informed_follows info mag age at (slot ∷ slots) f =
       first info (is_info_due lines at)

@@ -1,8 +1,10 @@
 -- The burden of a place is settled by the places of the pages that come before.
-use Rattle.std.proofs.Common.{◌≡◌, ℕ, zero, suc, ◌+◌, ◌*◌, ◌/◌, ◌%◌, ◌^◌, ◌<◌, ◌≤◌, Bool, true, false, cond, eqb, ltb, ◌&&◌, List, [], ◌∷◌, ◌++◌, length, take}
+use Rattle.std.proofs.Common.{◌≡◌, ℕ, zero, suc, ◌+◌, ◌*◌, ◌/◌, ◌%◌, ◌^◌, ◌<◌, ◌≤◌, Bool, true, false, cond, eqb, ltb, ◌&&◌, List, [], ◌∷◌, ◌++◌}
+use Rattle.std.proofs.Common.{length, take}
 use Rattle.std.proofs.Common.{min, Option, Some, None, refl, sym, ap, ◌∙◌, subst, arith, inl, inr, get_or}
 use Rattle.std.specs.Prelude.{slice_get, filter}
-use Rattle.std.proofs.lemmas.Bool.{cond-true, cond-false, cases_Bool, cases_eq, cases_lt, lt-ltb, eqb-true, eq-eqb, and_parts, and_from, or_left, or_right, both_ways}
+use Rattle.std.proofs.lemmas.Bool.{cond-true, cond-false, cases_Bool, cases_eq, cases_lt, lt-ltb, eqb-true, eq-eqb, and_parts, and_from, or_left}
+use Rattle.std.proofs.lemmas.Bool.{or_right, both_ways}
 use Rattle.std.proofs.lemmas.List.{length-take}
 use Rattle.std.proofs.lemmas.List.Sums.{fails_before_first, passes_at_first}
 use Rattle.std.proofs.lemmas.Option.{slice_get_within, get_or_from_slice_get}
@@ -40,7 +42,8 @@ mate_alike pages places others at p round other agree = by (slice_get pages othe
 
 below_alike : (n : ℕ) (f g : ℕ → Bool) → ((k : ℕ) → f k ≡ g k) → count_below n f ≡ count_below n g
 below_alike zero f g same = refl
-below_alike (suc n) f g same = ap (λ m. m + cond {A = ℕ} (f n) 1 0) (below_alike n f g same) ∙ ap (λ (b : Bool). count_below n g + cond {A = ℕ} b 1 0) (same n)
+below_alike (suc n) f g same = ap (λ m. m + cond {A = ℕ} (f n) 1 0) (below_alike n f g same)
+    ∙ ap (λ (b : Bool). count_below n g + cond {A = ℕ} b 1 0) (same n)
 
 mates_alike : (pages : List Authored) (places others : List ℕ) (at : ℕ) (p : Authored) (round : ℕ) → AgreeBefore pages places others at p →
     mates_so_far pages places at p round ≡ mates_so_far pages others at p round

@@ -1,5 +1,6 @@
 -- Each row and X/27/0 of a planned cycle is a packet of the page whose header it is under; each slot is clean, each header is a page's own.
-use Rattle.std.proofs.Common.{◌≡◌, ℕ, suc, ◌+◌, ◌<◌, Bool, true, false, List, [], length, drop, get_or, Some, refl, sym, ap, ◌∙◌, subst, inl, inr, arith}
+use Rattle.std.proofs.Common.{◌≡◌, ℕ, suc, ◌+◌, ◌<◌, Bool, true, false, List, [], length, drop, get_or, Some, refl, sym, ap, ◌∙◌, subst, inl, inr}
+use Rattle.std.proofs.Common.{arith}
 use Rattle.std.specs.Prelude.{slice_get}
 use Rattle.std.proofs.lemmas.Bool.{eq-eqb, and_from}
 use Rattle.ttx_header.specs.Ids.{Id, same_id}
@@ -29,7 +30,8 @@ planned_is_clean laws places late class service cycle is said carries n lt =
 pub planned_headers_are_own : LawsBelow → PlannedHeadersAreOwn
 planned_headers_are_own laws places late class service cycle is said carries n lt id control text e =
     let l = laid_out laws places late class service cycle is said carries in
-    (subst (Fits service.pages service.serial (get_or l.slots n Empty)) (sym (ap packet_of (bytes_at _ _ _ _ _ cycle l n lt)) ∙ e) (l.reads n).fits).own
+    (subst (Fits service.pages service.serial (get_or l.slots n Empty)) (sym (ap packet_of (bytes_at _ _ _ _ _ cycle l n lt)) ∙ e)
+    (l.reads n).fits).own
 
 -- the header of a page
 pub page_head : LawsBelow → (serial : Bool) (authored : Authored) → IsAuthored serial authored →

@@ -73,7 +73,8 @@ module _ (laws : LawsBelow) (written : WrittenLinksAreRead) (late : Bool) (class
             (b.brings bytes (subst (Has bytes) (ap (λ x. rest_of class x.page) same ∙ sym o.rest_is) has))
       ]
 
-  pub comes_under : HasLinks own.page → (item : Item) → is_sent_to class own.page item ≡ true → (j : ℤ) × IsOwned (repeated cycle) own.page.id item h j
+  pub comes_under : HasLinks own.page → (item : Item) → is_sent_to class own.page item ≡ true →
+      (j : ℤ) × IsOwned (repeated cycle) own.page.id item h j
   comes_under linked TheHead sent = (h, (refl, is))
   comes_under linked (TheRow r) sent =
       let n = row_numbers own.page r (sent_needed class own.page (TheRow r) sent) in

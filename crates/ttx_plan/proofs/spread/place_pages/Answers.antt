@@ -21,7 +21,8 @@ loop-index-preserved c =
     elim c.if-times-often.branch [
       | then-times-often w ↦
           let page = page_at_index c.pages-pages.result.now c.args.service.now.pages c.loop-index.index c.times.result
-          w.index-pages-index.result c.pages-pages.ensures.value (omega (arith, c.loop-index-test.true)) w.index-pages-index.is c.times.ensures.value in
+          w.index-pages-index.result c.pages-pages.ensures.value (omega (arith, c.loop-index-test.true)) w.index-pages-index.is
+          c.times.ensures.value in
           let authored = authored_at (page_of w.index-pages-index.result) c.times.result in
           record {
             enough = omega (arith, c.loop-index.invariant.enough, c.if-times-often.auto.places);

@@ -18,7 +18,8 @@ loop-index-preserved c =
     omega (arith, c.loop-index-test.true, c.pages-count_of_pages.ensures.count) in
     let p = listed_at c.args.service.now.pages c.loop-index.index here in
     let number : c.number_of-number.result ≡ number_of p.0 = c.number_of-number.ensures.value p.0 p.1 in
-    let within : c.number_of-number.result < length c.loop-index.numbers = omega (arith, c.number_of-number.ensures.few, c.loop-index.invariant.length) in
+    let within : c.number_of-number.result < length c.loop-index.numbers =
+    omega (arith, c.number_of-number.ensures.few, c.loop-index.invariant.length) in
     record {
       length = length-set c.loop-index.numbers c.number_of-number.result (get_or c.loop-index.numbers c.number_of-number.result 0 + 1)
           ∙ c.loop-index.invariant.length;
