@@ -25,11 +25,7 @@ pub others_more : {A B : Type 0} (list : List B) (first : B) (between : List B) 
     ≡ xs → i < length ys →
     (list ++ first ∷ (between ++ map sent (take i xs))) ++ sent (get_or ys i d) ∷ [] ≡ list ++ first ∷ (between ++ map sent (take (i + 1) xs))
 others_more list first between sent xs ys i d same here =
-    ap (λ zs. (list ++ first ∷ (between ++ map sent (take i xs))) ++ sent (get_or zs i d) ∷ []) same
-    ∙ append_assoc list (first ∷ (between ++ map sent (take i xs))) (sent (get_or xs i d) ∷ [])
-    ∙ ap (λ z. list ++ first ∷ z) (append_assoc between (map sent (take i xs)) (sent (get_or xs i d) ∷ []))
-    ∙ ap (λ z. list ++ first ∷ (between ++ z)) (sym (map-append sent (take i xs) (get_or xs i d ∷ [])))
-    ∙ ap (λ z. list ++ first ∷ (between ++ map sent z)) (sym (take_more xs i d (subst (λ zs. i < length zs) same here)))
+    rw (same, take_more xs i d (subst (λ zs. i < length zs) same here), map-append) (simp append_assoc)
 
 pub others_end : {A B : Type 0} (list : List B) (first : B) (between : List B) (sent : A → B) (xs ys : List A) (i : ℕ) → ys ≡ xs → length ys ≤ i →
     list ++ first ∷ (between ++ map sent (take i xs)) ≡ list ++ first ∷ (between ++ map sent xs)

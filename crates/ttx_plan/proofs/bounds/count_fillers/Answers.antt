@@ -40,10 +40,7 @@ loop-index-preserved c =
                 ∙ count_then c.args.receivers.late all some _ round block w.pass.result latest c.loop-index.count more below
                 (w.if-round-times.true ∙ c.place_at.ensures) c.loop-index.invariant.latest filler c.loop-index.invariant.count;
             late = ap (λ x. x.late) w.fillers-is ∙ ap (λ x. x.late) w.pass.ensures.passed ∙ c.loop-index.invariant.late;
-            latest = subst (λ x. KeepsLatest x
-                (rounds_to all round ++ round_of
-                (placed c.args.places.now (blocks_of c.args.receivers.class (take (c.loop-index.index + 1) c.args.service.now.pages))) round))
-                (sym passed)
+            latest = rw passed
                 (keeps_then all some _ round block latest more below (w.if-round-times.true ∙ c.place_at.ensures) c.loop-index.invariant.latest);
             few = search rules;
           }
@@ -52,11 +49,7 @@ loop-index-preserved c =
           record {
             count = w.count-is ∙ c.loop-index.invariant.count ∙ ap (λ x. fillers_in (with_fillers c.args.receivers.late [] x)) same;
             late = ap (λ x. x.late) w.fillers-is ∙ c.loop-index.invariant.late;
-            latest = subst (λ x. KeepsLatest x.latest
-                (rounds_to all round ++ round_of
-                (placed c.args.places.now (blocks_of c.args.receivers.class (take (c.loop-index.index + 1) c.args.service.now.pages))) round))
-                (sym w.fillers-is)
-                (subst (KeepsLatest latest) same c.loop-index.invariant.latest);
+            latest = rw w.fillers-is (subst (KeepsLatest latest) same c.loop-index.invariant.latest);
             few = omega (arith, w.count-is, c.loop-index.invariant.few);
           }
     ]

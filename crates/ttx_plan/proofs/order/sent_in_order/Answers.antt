@@ -28,8 +28,6 @@ loop-index-preserved c =
           ∙ sym (fillers_next c.args.late [] before (seen block)) ∙ ap (with_fillers c.args.late []) (sym next);
       count = search rules;
       late = ap (λ x. x.late) c.pass-filler.ensures.passed ∙ c.loop-index.invariant.late;
-      latest = subst (λ x. KeepsLatest x (picked (map seen c.args.blocks.now) (take (c.loop-index.index-index + 1) c.args.order.now)))
-          (sym (ap (λ x. x.latest) c.pass-filler.ensures.passed))
-          (subst (KeepsLatest _) (sym next)
-          (keeps_next c.loop-index.fillers.latest before (seen block) block.queue_to c.loop-index.invariant.latest));
+      latest = rw (c.pass-filler.ensures.passed, next)
+          (keeps_next c.loop-index.fillers.latest before (seen block) block.queue_to c.loop-index.invariant.latest);
     }

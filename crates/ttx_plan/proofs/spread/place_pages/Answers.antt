@@ -26,25 +26,17 @@ loop-index-preserved c =
           let authored = authored_at (page_of w.index-pages-index.result) c.times.result in
           record {
             enough = omega (arith, c.loop-index.invariant.enough, c.if-times-often.auto.places);
-            small = subst (λ xs. (at : ℕ) → get_or xs at 0 < 8) (sym w.places-is)
-                (λ at. small_set c.loop-index.places c.loop-index.index w.first_least-place.result at was.small
+            small = rw w.places-is (λ at. small_set c.loop-index.places c.loop-index.index w.first_least-place.result at was.small
                 (omega (arith, w.first_least-place.ensures.within, (period_range c.args.often c.requires.often).1)));
-            spread = subst (λ x. IsSpreadTo c.args.class c.args.service.now.pages x c.args.often (c.loop-index.index + 1))
-                (sym w.places-is)
-                (page_spread c.args.class c.loop-index.places c.args.service.now.pages c.loop-index.index c.args.often w.first_least-place.result
-                w.burdens-burdens.result c.loop-index.packets (authored_at (page_of w.index-pages-index.result) c.times.result) here page
+            spread = rw w.places-is (page_spread c.args.class c.loop-index.places c.args.service.now.pages c.loop-index.index c.args.often
+                w.first_least-place.result w.burdens-burdens.result c.loop-index.packets
+                (authored_at (page_of w.index-pages-index.result) c.times.result) here page
                 w.if-times-often.true c.requires.often w.first_least-place.ensures (w.burdens-burdens.ensures.value _ page) was.counted was.spread);
-            counted = subst (λ x. AreCounted x (placed c.if-times-often.places (blocks_of c.args.class c.args.service.now.pages)) c.args.often
-                (c.loop-index.index + 1))
-                (sym w.packets-is)
-                (subst (λ x. AreCounted w.add_packets.new.packets (placed x (blocks_of c.args.class c.args.service.now.pages)) c.args.often
-                (c.loop-index.index + 1))
-                (sym w.places-is)
-                (page_counted c.args.class c.loop-index.places c.args.service.now.pages c.loop-index.index c.args.often w.first_least-place.result
-                w.block_length.result c.loop-index.packets w.add_packets.new.packets
+            counted = rw (w.packets-is, w.places-is) (page_counted c.args.class c.loop-index.places c.args.service.now.pages c.loop-index.index
+                c.args.often w.first_least-place.result w.block_length.result c.loop-index.packets w.add_packets.new.packets
                 (authored_at (page_of w.index-pages-index.result) c.times.result) here page w.if-times-often.true
                 w.block_length.ensures.length (w.add_packets.auto.packets ∙ was.counted.eight)
-                (λ round lt. w.add_packets.ensures round (subst (λ k. round < k) (sym was.counted.eight) lt)) was.counted));
+                (λ round lt. w.add_packets.ensures round (subst (λ k. round < k) (sym was.counted.eight) lt)) was.counted);
             room = λ round.
                 let most = added_most c.loop-index.packets w.add_packets.new.packets _ w.first_least-place.result w.block_length.result round
                 w.add_packets.auto.packets w.block_length.ensures.few w.add_packets.ensures in
@@ -58,15 +50,9 @@ loop-index-preserved c =
           listed.0 listed.1.0 (λ e. w.if-times-often.false (sym listed.1.1 ∙ e)) was.spread was.counted in
           record {
             enough = omega (arith, c.loop-index.invariant.enough, c.if-times-often.auto.places);
-            small = subst (λ xs. (at : ℕ) → get_or xs at 0 < 8) (sym w.places-is) was.small;
-            spread = subst (λ x. IsSpreadTo c.args.class c.args.service.now.pages x c.args.often (c.loop-index.index + 1))
-                (sym w.places-is) passed.0;
-            counted = subst (λ x. AreCounted x (placed c.if-times-often.places (blocks_of c.args.class c.args.service.now.pages)) c.args.often
-                (c.loop-index.index + 1))
-                (sym w.packets-is)
-                (subst (λ x. AreCounted c.loop-index.packets (placed x (blocks_of c.args.class c.args.service.now.pages)) c.args.often
-                (c.loop-index.index + 1))
-                (sym w.places-is) passed.1);
+            small = rw w.places-is was.small;
+            spread = rw w.places-is passed.0;
+            counted = rw (w.packets-is, w.places-is) passed.1;
             room = λ round.
                 let before = was.room round in
                 let after = ap (λ x. get_or x round 0) w.packets-is in
