@@ -73,11 +73,8 @@ if_ok (Err e) f p = tt
 pub led_list : (list : List Slot) (queue : ℕ) (filler : Bool) (page : List Slot) → filler ≡ true →
     (list ++ Sent queue (time_filling_packet true queue) ∷ []) ++ page ≡ list
     ++ (map (Sent queue) (cond filler (time_filling_packet true queue ∷ []) []) ++ page)
-led_list list queue filler page e =
-    append_assoc list (Sent queue (time_filling_packet true queue) ∷ []) page
-    ∙ ap (λ ps. list ++ (map (Sent queue) ps ++ page)) (sym (cond-true filler (time_filling_packet true queue ∷ []) [] e))
+led_list list queue filler page e = rw e (append_assoc list (Sent queue (time_filling_packet true queue) ∷ []) page)
 
 pub unled_list : (list : List Slot) (queue : ℕ) (filler : Bool) (page : List Slot) → filler ≡ false → list ++ page ≡ list
     ++ (map (Sent queue) (cond filler (time_filling_packet true queue ∷ []) []) ++ page)
-unled_list list queue filler page e = ap (λ ps. list ++ (map (Sent queue) ps ++ page))
-    (sym (cond-false filler (time_filling_packet true queue ∷ []) [] e))
+unled_list list queue filler page e = rw e

@@ -56,19 +56,11 @@ in_round round block = eqb (round % (8 / block.often)) block.place
 
 pub sent_more : (all some : List Block) (round : ℕ) (block : Block) → in_round round block ≡ true → rounds_to all round
     ++ round_of (some ++ block ∷ []) round ≡ (rounds_to all round ++ round_of some round) ++ block ∷ []
-sent_more all some round block e =
-    ap (λ z. rounds_to all round ++ z)
-    (filter-append (in_round round) some (block ∷ [])
-    ∙ ap (λ z. round_of some round ++ z) (cond-true (in_round round block) (block ∷ []) [] e))
-    ∙ sym (append_assoc (rounds_to all round) (round_of some round) (block ∷ []))
+sent_more all some round block e = rw (filter-append, e) (sym (append_assoc (rounds_to all round) (round_of some round) (block ∷ [])))
 
 pub sent_same : (all some : List Block) (round : ℕ) (block : Block) → in_round round block ≡ false → rounds_to all round
     ++ round_of (some ++ block ∷ []) round ≡ rounds_to all round ++ round_of some round
-sent_same all some round block e =
-    ap (λ z. rounds_to all round ++ z)
-    (filter-append (in_round round) some (block ∷ [])
-    ∙ ap (λ z. round_of some round ++ z) (cond-false (in_round round block) (block ∷ []) [] e)
-    ∙ append-nil (round_of some round))
+sent_same all some round block e = rw (filter-append, e) (ap (λ z. rounds_to all round ++ z) (append-nil (round_of some round)))
 
 -- the blocks that are sent, and how many of them follow a time-filling header
 

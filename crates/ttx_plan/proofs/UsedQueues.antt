@@ -17,13 +17,7 @@ pub used_more : (front : List Slot) (blocks : List Block) (queue : ℕ) (b : Boo
     (front ++ map (λ n. Sent n (time_filling_packet true n)) (used_to blocks queue))
     ++ cond b (Sent queue (time_filling_packet true queue) ∷ []) [] ≡ front
     ++ map (λ n. Sent n (time_filling_packet true n)) (used_to blocks (queue + 1))
-used_more front blocks queue b e =
-    append_assoc front (map (λ n. Sent n (time_filling_packet true n)) (used_to blocks queue))
-    (cond b (Sent queue (time_filling_packet true queue) ∷ []) [])
-    ∙ ap (λ x. front ++ (map (λ n. Sent n (time_filling_packet true n)) (used_to blocks queue) ++ x)) (one b)
-    ∙ ap (λ x. front ++ x) (sym (map-append (λ n. Sent n (time_filling_packet true n)) (used_to blocks queue) (cond b (queue ∷ []) [])))
-    ∙ ap (λ x. front ++ map (λ n. Sent n (time_filling_packet true n)) (used_to blocks queue ++ cond x (queue ∷ []) [])) (sym e)
-    ∙ ap (λ n. front ++ map (λ n. Sent n (time_filling_packet true n)) (used_to blocks n)) (sym (add-one queue))
+used_more front blocks queue b e = rw (add-one, e, map-append) (rw (append_assoc, one b) refl)
   where
     one : (x : Bool) → cond x (Sent queue (time_filling_packet true queue) ∷ []) []
         ≡ map (λ n. Sent n (time_filling_packet true n)) (cond x (queue ∷ []) [])
