@@ -149,11 +149,7 @@ pub serial_filled : (lines : ℕ) (info : Option (List ℕ)) (list : List Slot) 
     new ≡ slots ++ replicate (missing lines (length slots)) (replicate 42 0) →
     new ≡ map bytes_of (to_whole_field lines (with_info lines info 0 list))
 serial_filled lines info list slots new l e =
-    let n : length slots ≡ length (with_info lines info 0 list) = ap length l.slots_are ∙ length-map (with_info lines info 0 list) bytes_of in
-    e ∙ ap (λ x. x ++ replicate (missing lines (length slots)) (replicate 42 0)) l.slots_are
-    ∙ ap (λ k. map bytes_of (with_info lines info 0 list) ++ replicate (missing lines k) (replicate 42 0)) n
-    ∙ ap (λ x. map bytes_of (with_info lines info 0 list) ++ x) (sym (empties (missing lines (length (with_info lines info 0 list)))))
-    ∙ sym (map-append bytes_of (with_info lines info 0 list) (replicate (missing lines (length (with_info lines info 0 list))) Empty))
+    rw (e, l.slots_are, map-append) (rw (length-map, empties (missing lines (length (with_info lines info 0 list)))))
 
 page_length : (lines : ℕ) (block : Block) → length (serial_page lines block) ≡ suc lines + length block.rest
 page_length lines block =

@@ -1,5 +1,5 @@
 -- A page that is alone in its number: no other page weighs on its places, and it takes no turns.
-use Rattle.std.proofs.Common.{◌≡◌, ℕ, zero, suc, ◌+◌, ◌*◌, ◌%◌, ◌/◌, ◌^◌, ◌<◌, Bool, true, false, cond, eqb, ◌&&◌, List, length}
+use Rattle.std.proofs.Common.{◌≡◌, ℕ, zero, suc, ◌+◌, ◌*◌, ◌%◌, ◌/◌, ◌<◌, Bool, true, false, cond, eqb, ◌&&◌, List, length}
 use Rattle.std.proofs.Common.{Option, Some, None, refl, sym, ap, ◌∙◌, arith, inl, inr, get_or}
 use Rattle.std.specs.Prelude.{slice_get}
 use Rattle.std.specs.List.{count_by}
@@ -9,7 +9,7 @@ use Rattle.std.proofs.lemmas.Option.{slice_get_within, get_or_from_slice_get}
 use Rattle.ttx_source.specs.Services.{Authored}
 use Rattle.ttx_plan.specs.Spreading.{number_of}
 use Rattle.ttx_plan.specs.SubpageTurns.{share_number, take_turns, first_of_turns, turn, turn_of, comes_before, is_mate_or_none, is_earlier_mate}
-use Rattle.ttx_plan.specs.SubpageTurns.{count_below, mates_so_far, rounds_late, burden}
+use Rattle.ttx_plan.specs.SubpageTurns.{count_below, mates_so_far, burden}
 use Rattle.ttx_plan.proofs.SpreadBurdens.{first_not_after}
 use Rattle.ttx_plan.proofs.SubpageLists.{listed_at, count_two}
 
@@ -85,7 +85,4 @@ pub lone_burden : (pages : List Authored) (places : List ℕ) (at : ℕ) (p : Au
 lone_burden pages places at p packets round alone e =
     let mates : mates_so_far pages places at p round ≡ 0 =
     none_below (length pages) (is_earlier_mate pages places at p round) (λ k. no_mate pages places at p round k alone e) in
-    let turns = no_turn pages places at p alone e in
-    sym (ap (λ n. (n * 8 + rounds_late (turn_of pages places at p) (8 / p.often) round) * 2 ^ 32 + packets) mates
-    ∙ ap (λ t. (0 * 8 + rounds_late t (8 / p.often) round) * 2 ^ 32 + packets) turns
-    ∙ omega arith)
+    rw (mates, no_turn pages places at p alone e) (omega arith)

@@ -1,9 +1,9 @@
 -- The blocks that are sent, one by one, with the page number in the latest header of each queue.
 use Rattle.std.proofs.Common.{◌≡◌, ℕ, ◌+◌, ◌/◌, ◌%◌, ◌<◌, Bool, true, false, ◌&&◌, cond, eqb, List, [], ◌∷◌, ◌++◌, map, length, take}
-use Rattle.std.proofs.Common.{get_or, set, refl, sym, ap, ◌∙◌, subst, arith, append_assoc, append-nil}
+use Rattle.std.proofs.Common.{get_or, set, refl, sym, ap, ◌∙◌, arith, append_assoc, append-nil}
 use Rattle.std.proofs.Common.{Some}
 use Rattle.std.specs.Prelude.{slice_get}
-use Rattle.std.proofs.lemmas.Bool.{cond-true, cond-false, eq-eqb, ne_eqb}
+use Rattle.std.proofs.lemmas.Bool.{eq-eqb, ne_eqb}
 use Rattle.std.proofs.lemmas.List.{length-set, map-append, take_more}
 use Rattle.std.proofs.lemmas.List.Elements.{filter-append}
 use Rattle.std.proofs.lemmas.List.Sums.{sum_by-append, sum_by-cons}
@@ -68,8 +68,8 @@ pub list_next : (late : Bool) (all some : List Block) (round : ℕ) (block : Blo
     with_fillers late [] (rounds_to all round ++ round_of (some ++ block ∷ []) round)
     ≡ with_fillers late [] (rounds_to all round ++ round_of some round)
     ++ led (late && is_again (rounds_to all round ++ round_of some round) block) block ∷ []
-list_next late all some round block e = ap (with_fillers late []) (sent_more all some round block e)
-    ∙ fillers_next late [] (rounds_to all round ++ round_of some round) block
+list_next late all some round block e =
+    rw (sent_more all some round block e, fillers_next late [] (rounds_to all round ++ round_of some round) block)
 
 pub count_next : (late : Bool) (all some : List Block) (round : ℕ) (block : Block) → in_round round block ≡ true →
     fillers_in (with_fillers late [] (rounds_to all round ++ round_of (some ++ block ∷ []) round))
@@ -91,11 +91,13 @@ pub sent_then : (late : Bool) (all some next : List Block) (round : ℕ) (block 
     sent ≡ with_fillers late [] (rounds_to all round ++ round_of some round) →
     sent ++ led filler block ∷ [] ≡ with_fillers late [] (rounds_to all round ++ round_of next round)
 sent_then late all some next round block filler pages sent more lt due k f s =
-    let e : in_round round block ≡ true = eq-eqb (round % (8 / block.often)) block.place due in
-    ap (λ x. x ++ led filler block ∷ []) s
-    ∙ ap (λ b. with_fillers late [] (rounds_to all round ++ round_of some round) ++ led b block ∷ [])
-    (f ∙ ap (λ b. late && b) (again_is pages (rounds_to all round ++ round_of some round) block lt k))
-    ∙ sym (list_next late all some round block e) ∙ ap (λ x. with_fillers late [] (rounds_to all round ++ round_of x round)) (sym more)
+    rw (
+      more,
+      list_next late all some round block (eq-eqb (round % (8 / block.often)) block.place due),
+      s,
+      f,
+      again_is pages (rounds_to all round ++ round_of some round) block lt k,
+    )
 
 pub count_then : (late : Bool) (all some next : List Block) (round : ℕ) (block : Block) (filler : Bool) (pages : List ℕ) (count : ℕ) →
     next ≡ some ++ block ∷ [] → block.queue < 8 → round % (8 / block.often) ≡ block.place →
@@ -103,35 +105,32 @@ pub count_then : (late : Bool) (all some next : List Block) (round : ℕ) (block
     count ≡ fillers_in (with_fillers late [] (rounds_to all round ++ round_of some round)) →
     count + cond filler 1 0 ≡ fillers_in (with_fillers late [] (rounds_to all round ++ round_of next round))
 count_then late all some next round block filler pages count more lt due k f s =
-    let e : in_round round block ≡ true = eq-eqb (round % (8 / block.often)) block.place due in
-    ap (λ x. x + cond filler 1 0) s
-    ∙ ap (λ b. fillers_in (with_fillers late [] (rounds_to all round ++ round_of some round)) + cond b 1 0)
-    (f ∙ ap (λ b. late && b) (again_is pages (rounds_to all round ++ round_of some round) block lt k))
-    ∙ sym (count_next late all some round block e) ∙ ap (λ x. fillers_in (with_fillers late [] (rounds_to all round ++ round_of x round))) (sym more)
+    rw (
+      more,
+      count_next late all some round block (eq-eqb (round % (8 / block.often)) block.place due),
+      s,
+      f,
+      again_is pages (rounds_to all round ++ round_of some round) block lt k,
+    )
 
 pub keeps_then : (all some next : List Block) (round : ℕ) (block : Block) (pages : List ℕ) → next ≡ some ++ block ∷ [] →
     block.queue < 8 → round % (8 / block.often) ≡ block.place →
     KeepsLatest pages (rounds_to all round ++ round_of some round) →
     KeepsLatest (set pages block.queue block.page) (rounds_to all round ++ round_of next round)
 keeps_then all some next round block pages more lt due k =
-    let e : in_round round block ≡ true = eq-eqb (round % (8 / block.often)) block.place due in
-    subst (KeepsLatest (set pages block.queue block.page))
-    (sym (sent_more all some round block e) ∙ ap (λ x. rounds_to all round ++ round_of x round) (sym more))
+    rw (more, sent_more all some round block (eq-eqb (round % (8 / block.often)) block.place due))
     (keeps_next pages (rounds_to all round ++ round_of some round) block lt k)
 
 -- if the block is not sent in the round, the lists stay
 pub list_else : (all some next : List Block) (round : ℕ) (block : Block) → next ≡ some ++ block ∷ [] →
     (round % (8 / block.often) ≡ block.place → ⊥) → rounds_to all round ++ round_of some round ≡ rounds_to all round ++ round_of next round
-list_else all some next round block more off = sym
-    (ap (λ x. rounds_to all round ++ round_of x round) more
-    ∙ sent_same all some round block (ne_eqb (round % (8 / block.often)) block.place off))
+list_else all some next round block more off =
+    rw (more, sent_same all some round block (ne_eqb (round % (8 / block.often)) block.place off))
 
 -- one more of the program's blocks
 pub seen_next : (blocks : List PageBlock) (i : ℕ) (block : PageBlock) → i < length blocks → block ≡ get_or blocks i block →
     map seen (take (i + 1) blocks) ≡ map seen (take i blocks) ++ seen block ∷ []
-seen_next blocks i block lt is =
-    ap (map seen) (take_more blocks i block lt) ∙ map-append seen (take i blocks) (get_or blocks i block ∷ [])
-    ∙ ap (λ x. map seen (take i blocks) ++ seen x ∷ []) (sym is)
+seen_next blocks i block lt is = rw (take_more blocks i block lt, ← is, map-append)
 
 -- blocks in an order: one more of them
 

@@ -43,10 +43,8 @@ sum_rounds f blocks zero = zeros blocks
     zeros [] = refl
     zeros (b ∷ bs) = let h : 0 ≡ sum_by (λ (b : Block). 0) bs = zeros bs in omega (arith, h, sum_by-cons (λ (b : Block). 0) b bs)
 sum_rounds f blocks (suc n) =
-    sum_by-append f (rounds_to blocks n) (round_of blocks n)
-    ∙ ap (λ x. x + sum_by f (round_of blocks n)) (sum_rounds f blocks n)
-    ∙ ap (λ x. sum_by (λ b. in_rounds b.often b.place n (f b)) blocks + x) (sum_filter f (λ b. eqb (n % (8 / b.often)) b.place) blocks)
-    ∙ sum_both (λ b. in_rounds b.often b.place n (f b)) (λ b. cond (eqb (n % (8 / b.often)) b.place) (f b) 0) blocks
+    rw (sum_by-append f (rounds_to blocks n) (round_of blocks n), sum_rounds f blocks n, sum_filter f (λ b. eqb (n % (8 / b.often)) b.place) blocks)
+    (sum_both (λ b. in_rounds b.often b.place n (f b)) (λ b. cond (eqb (n % (8 / b.often)) b.place) (f b) 0) blocks)
 
 -- in eight rounds a block is sent `often` times, whatever its place
 once : (place w : ℕ) → place < 8 → in_rounds 1 place 8 w ≡ 1 * w

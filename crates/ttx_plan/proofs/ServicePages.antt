@@ -1,6 +1,6 @@
 -- The pages of a service one by one: their blocks, how often they are sent, and the queues that they use.
 use Rattle.std.proofs.Common.{◌≡◌, ℕ, zero, suc, ◌+◌, ◌-◌, ◌*◌, ◌<◌, ◌≤◌, Bool, cond, List, [], ◌∷◌, ◌++◌, ◌||◌, map, length, take}
-use Rattle.std.proofs.Common.{Option, Some, None, refl, sym, ap, ◌∙◌, subst, arith, eqb, get_or, mul-le-mul}
+use Rattle.std.proofs.Common.{add-one, Option, Some, None, refl, sym, ap, ◌∙◌, subst, arith, eqb, get_or, mul-le-mul}
 use Rattle.std.proofs.Common.{set}
 use Rattle.std.specs.Prelude.{All, slice_get, option_map, sum_by}
 use Rattle.std.specs.List.{AllByRecursion, list_any}
@@ -95,28 +95,28 @@ take_next (y ∷ ys) (suc n) x h = ap (λ z. y ∷ z) (take_next ys n x h)
 
 pub blocks_next : (class : Class) (pages : List Authored) (i : ℕ) (page : Authored) → slice_get pages i ≡ Some page →
     blocks_of class (take (i + 1) pages) ≡ blocks_of class (take i pages) ++ block_at class page ∷ []
-blocks_next class pages i page e =
-    let n : i + 1 ≡ suc i = omega arith in
-    ap (λ k. blocks_of class (take k pages)) n ∙ ap (blocks_of class) (take_next pages i page e)
-    ∙ map-append (block_at class) (take i pages) (page ∷ [])
+blocks_next class pages i page e = rw (add-one, take_next pages i page e, map-append)
 
 -- the same with places
 pub placed_blocks_next : (spread : List ℕ) (class : Class) (pages : List Authored) (i : ℕ) (page : Authored) → slice_get pages i ≡ Some page →
     placed spread (blocks_of class (take (i + 1) pages))
     ≡ placed spread (blocks_of class (take i pages)) ++ at_place (get_or spread i 0) (block_at class page) ∷ []
 placed_blocks_next spread class pages i page e =
-    ap (placed spread) (blocks_next class pages i page e) ∙ placed_next spread (blocks_of class (take i pages)) (block_at class page)
-    ∙ ap (λ n. placed spread (blocks_of class (take i pages)) ++ at_place (get_or spread n 0) (block_at class page) ∷ [])
-    (length-map (take i pages) (block_at class) ∙ length-take-le i pages (omega (arith, slice_get_within pages i page e)))
+    rw (
+      blocks_next class pages i page e,
+      placed_next spread (blocks_of class (take i pages)) (block_at class page),
+      length-map,
+      length-take-le i pages (omega (arith, slice_get_within pages i page e)),
+    )
 
 pub sum_next : (f : Block → ℕ) (class : Class) (pages : List Authored) (i : ℕ) (page : Authored) → slice_get pages i ≡ Some page →
     sum_by f (blocks_of class (take (i + 1) pages)) ≡ sum_by f (blocks_of class (take i pages)) + f (block_at class page)
 sum_next f class pages i page e =
-    ap (sum_by f) (blocks_next class pages i page e) ∙ sum_by-append f (blocks_of class (take i pages)) (block_at class page ∷ [])
-    ∙ ap (λ n. sum_by f (blocks_of class (take i pages)) + n) (one (block_at class page))
-  where
-    one : (b : Block) → sum_by f (b ∷ []) ≡ f b
-    one b = omega (arith, sum_by-cons f b [])
+    rw (
+      blocks_next class pages i page e,
+      sum_by-append f (blocks_of class (take i pages)) (block_at class page ∷ []),
+      sum_by-cons f (block_at class page) [],
+    ) (omega arith)
 
 -- the queues that have pages
 

@@ -1,5 +1,5 @@
 -- The burden of a place is settled by the places of the pages that come before.
-use Rattle.std.proofs.Common.{◌≡◌, ℕ, zero, suc, ◌+◌, ◌*◌, ◌/◌, ◌%◌, ◌^◌, ◌<◌, ◌≤◌, Bool, true, false, cond, eqb, ltb, ◌&&◌, List, [], ◌∷◌, ◌++◌}
+use Rattle.std.proofs.Common.{◌≡◌, ℕ, zero, suc, ◌+◌, ◌*◌, ◌/◌, ◌%◌, ◌<◌, ◌≤◌, Bool, true, false, cond, eqb, ltb, ◌&&◌, List, [], ◌∷◌, ◌++◌}
 use Rattle.std.proofs.Common.{length, take}
 use Rattle.std.proofs.Common.{min, Option, Some, None, refl, sym, ap, ◌∙◌, subst, arith, inl, inr, get_or}
 use Rattle.std.specs.Prelude.{slice_get, filter}
@@ -10,11 +10,11 @@ use Rattle.std.proofs.lemmas.List.Sums.{fails_before_first, passes_at_first}
 use Rattle.std.proofs.lemmas.Option.{slice_get_within, get_or_from_slice_get}
 use Rattle.ttx_page.specs.declared.class.Class.{Class}
 use Rattle.ttx_source.specs.Services.{Authored}
-use Rattle.ttx_plan.specs.Blocks.{Block, at_place, placed, round_of, packets_in}
+use Rattle.ttx_plan.specs.Blocks.{Block, at_place, placed}
 use Rattle.ttx_plan.specs.Carries.{block_at, blocks_of}
-use Rattle.ttx_plan.specs.Spread.{earlier, packets_so_far, burden_so_far}
+use Rattle.ttx_plan.specs.Spread.{earlier, burden_so_far}
 use Rattle.ttx_plan.specs.SubpageTurns.{take_turns, first_of_turns, turn, turn_of, comes_before, is_mate_or_none, is_earlier_mate, mates_so_far}
-use Rattle.ttx_plan.specs.SubpageTurns.{count_below, share_number, rounds_late, burden, steps, count_of_turns}
+use Rattle.ttx_plan.specs.SubpageTurns.{count_below, share_number, steps, count_of_turns}
 use Rattle.ttx_plan.proofs.SubpageLists.{listed_at, takes_own_turn}
 use Rattle.ttx_plan.proofs.ServicePages.{page_block, blocks_size}
 
@@ -156,8 +156,8 @@ pub burden_alike : (class : Class) (pages : List Authored) (places others : List
     slice_get pages at ≡ Some p → AgreeBefore pages places others at p →
     burden_so_far class pages places at p round ≡ burden_so_far class pages others at p round
 burden_alike class pages places others at p round e agree =
-    ap (λ bs. burden pages places at p (packets_in (round_of bs round)) round) (earlier_alike class pages places others at p agree)
-    ∙ ap (λ n. (n * 8 + rounds_late (turn_of pages places at p) (8 / p.often) round) * 2 ^ 32
-    + packets_so_far (placed others (blocks_of class pages)) p.often at round) (mates_alike pages places others at p round agree)
-    ∙ ap (λ t. (mates_so_far pages others at p round * 8 + rounds_late t (8 / p.often) round) * 2 ^ 32
-    + packets_so_far (placed others (blocks_of class pages)) p.often at round) (turn_alike pages places others at p e agree)
+    rw (
+      earlier_alike class pages places others at p agree,
+      mates_alike pages places others at p round agree,
+      turn_alike pages places others at p e agree,
+    )

@@ -3,7 +3,7 @@ use Rattle.std.proofs.Common.{◌≡◌, ℕ, zero, suc, ◌+◌, ◌/◌, ◌%�
 use Rattle.std.proofs.Common.{List, [], ◌∷◌, ◌++◌, length, set, take}
 use Rattle.std.proofs.Common.{get_or, Some, refl, sym, ap, ◌∙◌, subst, arith, inl, inr}
 use Rattle.std.specs.Prelude.{slice_get, filter, sum_by}
-use Rattle.std.proofs.lemmas.Bool.{cond-true, cond-false, cases_eq, eq-eqb, ne_eqb, le-ltb, or_from, and_left, and_right, both_ways}
+use Rattle.std.proofs.lemmas.Bool.{cond-false, cases_eq, eq-eqb, ne_eqb, le-ltb, or_from, and_left, and_right, both_ways}
 use Rattle.std.proofs.lemmas.List.{append-nil, append_assoc, take_more_set, get_or-set_same, get_or-set_other}
 use Rattle.std.proofs.lemmas.List.Elements.{filter-append, filter_more}
 use Rattle.std.proofs.lemmas.List.Sums.{sum_by-cons, sum_by-append}
@@ -62,29 +62,19 @@ filter_take_set test (suc m) (z ∷ xs) (suc n) x y e old new =
 earlier_more : (blocks : List Block) (n place : ℕ) (block : Block) → slice_get blocks n ≡ Some block →
     earlier (set blocks n (at_place place block)) block.often (n + 1) ≡ earlier blocks block.often n ++ at_place place block ∷ []
 earlier_more blocks n place block e =
-    let new = at_place place block in
-    let often = block.often in
     let less : ltb block.often block.often ≡ false = le-ltb block.often block.often (omega arith) in
-    ap (λ xs. xs ++ filter (is_as block.often) (take (n + 1) (set blocks n (at_place place block))))
-    (filter_set (is_more block.often) blocks n block (at_place place block) e less less)
-    ∙ ap (λ xs. filter (is_more block.often) blocks ++ filter (is_as block.often) xs)
-    (take_more_set blocks n (at_place place block) (slice_get_within blocks n block e))
-    ∙ ap (λ xs. filter (is_more block.often) blocks ++ xs)
-    (filter-append (is_as block.often) (take n blocks) (at_place place block ∷ [])
-    ∙ ap (λ xs. filter (is_as block.often) (take n blocks) ++ xs)
-    (cond-true (eqb block.often block.often) (at_place place block ∷ []) [] (eq-eqb block.often block.often refl)))
-    ∙ sym (append_assoc (filter (is_more block.often) blocks) (filter (is_as block.often) (take n blocks)) (at_place place block ∷ []))
+    rw (
+      filter_set (is_more block.often) blocks n block (at_place place block) e less less,
+      take_more_set blocks n (at_place place block) (slice_get_within blocks n block e),
+    )
+    (rw (filter-append, eq-eqb block.often block.often refl)
+    (sym (append_assoc (filter (is_more block.often) blocks) (filter (is_as block.often) (take n blocks)) (at_place place block ∷ []))))
 
 -- a block that is sent more or less often is skipped
 earlier_else : (blocks : List Block) (n : ℕ) (block : Block) (often : ℕ) → slice_get blocks n ≡ Some block → eqb block.often often ≡ false →
     earlier blocks often (n + 1) ≡ earlier blocks often n
 earlier_else blocks n block often e other =
-    let here : get_or blocks n block ≡ block = get_or_from_slice_get blocks n block block e in
-    ap (λ xs. filter (is_more often) blocks ++ xs)
-    (filter_more (is_as often) blocks n block (slice_get_within blocks n block e)
-    ∙ ap (λ xs. filter (is_as often) (take n blocks) ++ xs)
-    (cond-false (is_as often (get_or blocks n block)) (get_or blocks n block ∷ []) [] (ap (is_as often) here ∙ other))
-    ∙ append-nil (filter (is_as often) (take n blocks)))
+    rw (filter_more (is_as often) blocks n block (slice_get_within blocks n block e), get_or_from_slice_get blocks n block block e, other, append-nil)
 
 -- the packets of a round
 

@@ -1,4 +1,5 @@
 -- Pages by their index, and how many of a list pass a test.
+use Rattle.std.proofs.Common.{add-one}
 use Rattle.std.proofs.Common.{◌≡◌, ℕ, zero, suc, ◌+◌, ◌<◌, ◌≤◌, Bool, true, false, cond, eqb, ◌&&◌, List, [], ◌∷◌, length, take, replicate}
 use Rattle.std.proofs.Common.{Some, None, refl, sym, ap, ◌∙◌, arith, get_or}
 use Rattle.std.specs.Prelude.{slice_get}
@@ -21,10 +22,12 @@ listed_at (x ∷ xs) (suc i) lt = listed_at xs i (omega (arith, lt))
 pub count_next : {A : Type 0} (test : A → Bool) (xs : List A) (i : ℕ) (x : A) → slice_get xs i ≡ Some x →
     count_by test (take (i + 1) xs) ≡ count_by test (take i xs) + cond (test x) 1 0
 count_next test xs i x e =
-    let n : i + 1 ≡ suc i = omega arith in
-    ap (λ k. count_by test (take k xs)) n ∙ ap (count_by test) (take_next xs i x e)
-    ∙ sum_by-append (λ y. cond (test y) 1 0) (take i xs) (x ∷ [])
-    ∙ ap (λ k. count_by test (take i xs) + k) (sum_by-cons (λ y. cond (test y) 1 0) x [] ∙ omega arith)
+    rw (
+      add-one,
+      take_next xs i x e,
+      sum_by-append (λ y. cond (test y) 1 0) (take i xs) (x ∷ []),
+      sum_by-cons (λ y. cond (test y) 1 0) x [],
+    ) (omega arith)
 
 pub count_all : {A : Type 0} (test : A → Bool) (xs : List A) (i : ℕ) → length xs ≤ i → count_by test (take i xs) ≡ count_by test xs
 count_all test xs i le = ap (count_by test) (take_all i xs le)

@@ -1,5 +1,5 @@
 -- The queues that have pages.
-use Rattle.std.proofs.Common.{◌≡◌, ℕ, ◌+◌, Bool, true, false, cond, List, [], ◌∷◌, ◌++◌, ◌||◌, map, refl, sym, ap, ◌∙◌, append_assoc, add-one, eqb}
+use Rattle.std.proofs.Common.{◌≡◌, ℕ, ◌+◌, Bool, true, false, cond, List, [], ◌∷◌, ◌++◌, ◌||◌, map, refl, ap, ◌∙◌, append_assoc, add-one, eqb}
 use Rattle.std.specs.List.{list_any}
 use Rattle.std.proofs.Common.{suc, length, arith, length-append}
 use Rattle.std.proofs.lemmas.List.{map-append}

@@ -1,5 +1,5 @@
 -- All waiting together costs at most one field for each block, so the slots stay within the length bound.
-use Rattle.std.proofs.Common.{◌≡◌, ◌≢◌, ℕ, suc, ◌+◌, ◌-◌, ◌*◌, ◌/◌, ◌%◌, ◌<◌, ◌≤◌, Bool, true, false, not, cond, List, [], ◌∷◌, length, take, drop}
+use Rattle.std.proofs.Common.{◌≡◌, ◌≢◌, ℕ, suc, ◌+◌, ◌-◌, ◌*◌, ◌/◌, ◌%◌, ◌<◌, ◌≤◌, Bool, true, false, not, cond, List, [], ◌∷◌, length, take}
 use Rattle.std.proofs.Common.{Some, refl, sym, ap, ◌∙◌, subst, arith, inl, inr, eqb, length-append}
 use Rattle.std.specs.List.{list_any}
 use Rattle.std.proofs.lemmas.Bool.{cond-true, cond-false, cond_both, ltb-true, eqb-true, cases_eq, eq-eqb, ne_eqb, not-false, and_parts}
@@ -93,15 +93,11 @@ few_infos mags (Info bytes ∷ before) lines t =
 -- what is left after the magazine's packet
 rest_sent : (mags : Magazines) (before : List Slot) (queue : ℕ) (packet : Packet) → next_of mags queue before ≡ Some packet →
     left_in mags before queue ≡ packet ∷ left_in mags (Sent queue packet ∷ before) queue
-rest_sent mags before queue packet h =
-    drop_next (queue_of mags queue) (sent_by queue before) packet h
-    ∙ ap (λ n. packet ∷ drop n (queue_of mags queue))
-    (sym (cond-true (eqb queue queue) (suc (sent_by queue before)) (sent_by queue before) (eq-eqb queue queue refl)))
+rest_sent mags before queue packet h = rw (eq-eqb queue queue refl) (drop_next (queue_of mags queue) (sent_by queue before) packet h)
 
 rest_other : (mags : Magazines) (before : List Slot) (queue m : ℕ) (packet : Packet) → m ≢ queue → left_in mags before m
     ≡ left_in mags (Sent queue packet ∷ before) m
-rest_other mags before queue m packet ne =
-    ap (λ n. drop n (queue_of mags m)) (sym (cond-false (eqb queue m) (suc (sent_by m before)) (sent_by m before) (ne_eqb queue m (λ e. ne (sym e)))))
+rest_other mags before queue m packet ne = rw (ne_eqb queue m (λ e. ne (sym e)))
 
 abbrev pub left_of : Magazines → List Slot → ℕ
 left_of mags before = sum_to 8 (λ m. length (left_in mags before m))

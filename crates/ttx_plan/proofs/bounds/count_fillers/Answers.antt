@@ -1,7 +1,7 @@
-use Rattle.std.proofs.Common.{◌≡◌, ◌+◌, ◌-◌, ◌<◌, ◌++◌, [], ◌&&◌, eqb, get_or, set, take, rules, refl, ap, sym, subst, ◌∙◌, arith}
+use Rattle.std.proofs.Common.{◌≡◌, ◌+◌, ◌-◌, ◌<◌, [], ◌&&◌, eqb, get_or, set, take, rules, refl, ap, sym, subst, ◌∙◌, arith}
 use Rattle.ttx_page.specs.Views.{page_of}
 use Rattle.ttx_source.specs.Services.{authored_at}
-use Rattle.ttx_plan.specs.Blocks.{at_place, placed, rounds_to, round_of, with_fillers}
+use Rattle.ttx_plan.specs.Blocks.{at_place, placed, with_fillers}
 use Rattle.ttx_plan.specs.Carries.{block_at, blocks_of}
 use Rattle.ttx_plan.specs.Seen.{fillers_in}
 use Rattle.ttx_plan.proofs.PassedBlocks.{KeepsLatest, count_then, keeps_then, list_else}

@@ -1,11 +1,11 @@
-use Rattle.std.proofs.Common.{rules, ◌+◌, ◌++◌, ◌∷◌, [], ◌&&◌, eqb, get_or, map, take, ap, refl, sym, subst, ◌∙◌, arith}
+use Rattle.std.proofs.Common.{rules, ◌++◌, ◌∷◌, [], ◌&&◌, eqb, get_or, map, take, ap, refl, sym, ◌∙◌, arith}
 use Rattle.std.specs.Prelude.{option_map}
 use Rattle.std.proofs.lemmas.List.{map-append}
 use Rattle.std.proofs.lemmas.Option.{slice_get-map, slice_get_read}
 use Rattle.ttx_plan.specs.Blocks.{with_fillers, led}
 use Rattle.ttx_plan.specs.Order.{picked}
 use Rattle.ttx_plan.specs.Seen.{seen, seen_sent}
-use Rattle.ttx_plan.proofs.PassedBlocks.{KeepsLatest, fillers_next, keeps_next, again_is, picked_next}
+use Rattle.ttx_plan.proofs.PassedBlocks.{fillers_next, keeps_next, again_is, picked_next}
 use Rattle.ttx_plan.proofs.order.sent_in_order.Goals as goal
 
 pub loop-index-preserved : goal.loop-index-preserved

@@ -1,6 +1,6 @@
-use Rattle.std.proofs.Common.{◌+◌, ◌++◌, ◌∷◌, [], ◌&&◌, eqb, get_or, map, take, ap, sym, subst, ◌∙◌}
+use Rattle.std.proofs.Common.{◌∷◌, [], ◌&&◌, eqb, get_or, map, take, ap, subst, ◌∙◌}
 use Rattle.std.proofs.lemmas.List.{map-append}
-use Rattle.ttx_plan.specs.Blocks.{rounds_to, round_of, with_fillers}
+use Rattle.ttx_plan.specs.Blocks.{with_fillers}
 use Rattle.ttx_plan.specs.Seen.{seen, seen_sent}
 use Rattle.ttx_plan.proofs.PassedBlocks.{KeepsLatest, sent_then, keeps_then, list_else, seen_next}
 use Rattle.ttx_plan.proofs.rounds.sent_blocks.Goals as goal

@@ -1,10 +1,7 @@
-use Rattle.std.proofs.Common.{ℕ, ◌<◌, ◌+◌, get_or, length, ap, sym, subst, arith, ◌∙◌}
+use Rattle.std.proofs.Common.{◌<◌, get_or, length, ap, sym, subst, arith, ◌∙◌}
 use Rattle.std.specs.Prelude.{slice_get}
 use Rattle.ttx_page.specs.Views.{page_of}
 use Rattle.ttx_source.specs.Services.{authored_at}
-use Rattle.ttx_plan.specs.Blocks.{placed}
-use Rattle.ttx_plan.specs.Carries.{blocks_of}
-use Rattle.ttx_plan.specs.Spreading.{AreCounted, IsSpreadTo}
 use Rattle.ttx_plan.proofs.ServicePages.{listed_page, page_at_index}
 use Rattle.ttx_plan.proofs.SpreadPages.{page_spread, page_counted, page_passed, added_most, small_set}
 use Rattle.ttx_plan.proofs.OftenNumbers.{period_range}
