@@ -14,7 +14,7 @@ use Rattle.ttx_plan.specs.Blocks.{Block, header_packet, rest_packet, filler_of, 
 use Rattle.ttx_plan.specs.Blocks.{time_filling_packet, queue_packets, queues_to}
 use Rattle.ttx_plan.specs.Carries.{magazines_for}
 use Rattle.ttx_plan.specs.Packets.{is_row_or_links, bytes_of, sent_bytes}
-use Rattle.ttx_plan.specs.Serial.{serial_page, serial_block, serial_list, info_if, with_info, serial_slots}
+use Rattle.ttx_plan.specs.Serial.{serial_block, serial_list, info_if, with_info, serial_slots}
 use Rattle.ttx_plan.specs.Turns.{Magazines, queue_of, sent_by, next_of, is_info_due, missing, KeepsTurns, IsParallel}
 use Rattle.ttx_plan.proofs.CursorsLookBack.{IsFrom, turn_from_queues}
 use Rattle.ttx_plan.proofs.ServicePages.{take_next}
@@ -50,10 +50,7 @@ module _ (queue lines : ℕ) where
   queue_info : (info : Option (List ℕ)) (at : ℕ) (slots : List Slot) → of_queue queue (with_info lines info at slots) ≡ of_queue queue slots
   queue_info info at [] = refl
   queue_info info at (slot ∷ slots) =
-      let first = info_if info (is_info_due lines at) in
-      let rest = with_info lines info (at + length first + 1) slots in
-      flat_map-append (held queue) first (slot ∷ rest) ∙ ap (λ z. z ++ of_queue queue (slot ∷ rest)) (none info (is_info_due lines at))
-      ∙ ap (λ z. held queue slot ++ z) (queue_info info (at + length first + 1) slots)
+      rw (flat_map-append, none info (is_info_due lines at), queue_info info (at + length (info_if info (is_info_due lines at)) + 1) slots)
     where
       none : (o : Option (List ℕ)) (due : Bool) → of_queue queue (info_if o due) ≡ []
       none None due = refl
@@ -75,15 +72,14 @@ module _ (queue lines : ℕ) where
 
   queue_block : (block : Block) → of_queue queue (serial_block lines block) ≡ cond (eqb block.queue queue) (packets_of true block) []
   queue_block block =
-      let rows = map (λ bytes. Sent block.queue (rest_packet bytes)) block.rest in
-      let first = cond (eqb block.queue queue) (header_packet block.header ∷ []) [] in
-      flat_map-append (held queue) (map (Sent block.queue) (filler_of true block)) (serial_page lines block)
-      ∙ ap (λ z. z ++ of_queue queue (serial_page lines block)) (queue_own block.queue (λ p. p) (filler_of true block)
-      ∙ ap (λ z. cond (eqb block.queue queue) z []) (map-id (filler_of true block)))
-      ∙ ap (λ z. cond (eqb block.queue queue) (filler_of true block) [] ++ (first ++ z))
-      (flat_map-append (held queue) (replicate lines Empty) rows ∙ ap (λ z. z ++ of_queue queue rows) (queue_filled queue lines [])
-      ∙ queue_own block.queue rest_packet block.rest)
-      ∙ by (eqb block.queue queue)
+      rw (
+        flat_map-append (held queue),
+        queue_own block.queue (λ p. p) (filler_of true block),
+        map-id,
+        flat_map-append (held queue) (replicate lines Empty),
+        queue_filled queue lines [],
+        queue_own block.queue rest_packet block.rest,
+      ) (by (eqb block.queue queue))
     where
       by : (b : Bool) → cond b (filler_of true block) [] ++ (cond b (header_packet block.header ∷ []) [] ++ cond b (map rest_packet block.rest) [])
           ≡ cond b (packets_of true block) []
@@ -93,10 +89,7 @@ module _ (queue lines : ℕ) where
   queue_blocks : (sent : List Block) → of_queue queue (flat_map (serial_block lines) sent)
       ≡ flat_map (λ block. cond (eqb block.queue queue) (packets_of true block) []) sent
   queue_blocks [] = refl
-  queue_blocks (block ∷ sent) =
-      flat_map-append (held queue) (serial_block lines block) (flat_map (serial_block lines) sent)
-      ∙ ap (λ z. z ++ of_queue queue (flat_map (serial_block lines) sent)) (queue_block block)
-      ∙ ap (λ z. cond (eqb block.queue queue) (packets_of true block) [] ++ z) (queue_blocks sent)
+  queue_blocks (block ∷ sent) = rw (flat_map-append, queue_block block, queue_blocks sent)
 
   abbrev fill : ℕ → Slot
   fill m = Sent m (time_filling_packet true m)

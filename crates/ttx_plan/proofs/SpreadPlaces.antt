@@ -80,14 +80,10 @@ earlier_else blocks n block often e other =
 
 packets_more : (xs : List Block) (block : Block) (round : ℕ) → packets_in (round_of (xs ++ block ∷ []) round)
     ≡ packets_in (round_of xs round) + cond (stands round block) (weight block) 0
-packets_more xs block round =
-    ap packets_in (filter-append (stands round) xs (block ∷ []))
-    ∙ sum_by-append weight (round_of xs round) (filter (stands round) (block ∷ []))
-    ∙ ap (λ n. packets_in (round_of xs round) + n) (last (stands round block))
+packets_more xs block round = rw (filter-append, sum_by-append weight, last (stands round block))
   where
     last : (b : Bool) → sum_by weight (cond b (block ∷ []) []) ≡ cond b (weight block) 0
-    last true = let h : sum_by weight (block ∷ []) ≡ weight block + sum_by weight [] = sum_by-cons weight block [] in
-        let z : sum_by weight [] ≡ 0 = refl in omega (arith, h, z)
+    last true = rw (sum_by-cons weight) (omega arith)
     last false = refl
 
 pub first_least_same : (f g : ℕ → ℕ) (count number : ℕ) → ((round : ℕ) → round < count → f round ≡ g round) → IsFirstLeast f count number →
