@@ -33,8 +33,7 @@ queued_sent (b ∷ sent) = (b.block.now.queue_to, queued_sent sent)
 
 slots_for-append : (lines : ℕ) (xs ys : List Packet) → slots_for lines (xs ++ ys) ≡ slots_for lines xs + slots_for lines ys
 slots_for-append lines [] ys = omega arith
-slots_for-append lines (x ∷ xs) ys = let h : slots_for lines (xs ++ ys) ≡ slots_for lines xs + slots_for lines ys =
-    slots_for-append lines xs ys in omega arith
+slots_for-append lines (x ∷ xs) ys = omega (arith, slots_for-append lines xs ys)
 
 slots_for-rest : (lines : ℕ) (xs : List (List ℕ)) → slots_for lines (map rest_packet xs) ≡ length xs
 slots_for-rest lines [] = refl
@@ -43,10 +42,6 @@ slots_for-rest lines (x ∷ xs) = let h : slots_for lines (map rest_packet xs) �
 sum_add : (f g : ℕ → ℕ) (n : ℕ) → sum_to n (λ m. f m + g m) ≡ sum_to n f + sum_to n g
 sum_add f g zero = refl
 sum_add f g (suc n) = let h : sum_to n (λ m. f m + g m) ≡ sum_to n f + sum_to n g = sum_add f g n in omega arith
-
-sum_zero : (n : ℕ) → sum_to n (λ m. 0) ≡ 0
-sum_zero zero = refl
-sum_zero (suc n) = let h : sum_to n (λ m. 0) ≡ 0 = sum_zero n in omega arith
 
 -- a block's packets in this queue
 abbrev pub in_queue : ℕ → Block → List Packet
@@ -68,7 +63,7 @@ own_slots lines block =
 
 blocks_slots : (lines : ℕ) (blocks : List Block) → AreQueued blocks → sum_to 8 (λ m. slots_for lines (flat_map (in_queue m) blocks))
     ≡ sum_by size_of blocks + length blocks * lines
-blocks_slots lines [] a = sum_zero 8 ∙ omega arith
+blocks_slots lines [] a = omega arith
 blocks_slots lines (block ∷ blocks) a =
     let h : sum_to 8 (λ m. slots_for lines (flat_map (in_queue m) blocks)) ≡ sum_by size_of blocks + length blocks * lines =
     blocks_slots lines blocks a.1 in
@@ -90,11 +85,12 @@ fillings_slots : (lines : ℕ) (blocks : List Block) (n : ℕ) →
     sum_to n (λ m. slots_for lines (cond (has_pages blocks m) (time_filling_packet false m ∷ []) [])) ≡ length (used_to blocks n)
 fillings_slots lines blocks zero = refl
 fillings_slots lines blocks (suc n) =
-    let h : sum_to n (λ m. slots_for lines (cond (has_pages blocks m) (time_filling_packet false m ∷ []) []))
-    ≡ length (used_to blocks n) = fillings_slots lines blocks n in
-    let k : slots_for lines (cond (has_pages blocks n) (time_filling_packet false n ∷ []) [])
-    ≡ length (cond (has_pages blocks n) (n ∷ []) []) = one (has_pages blocks n) in
-    omega (arith, length-append (used_to blocks n) (cond (has_pages blocks n) (n ∷ []) []))
+    omega (
+      arith,
+      fillings_slots lines blocks n,
+      one (has_pages blocks n),
+      length-append (used_to blocks n) (cond (has_pages blocks n) (n ∷ []) []),
+    )
   where
     one : (b : Bool) → slots_for lines (cond b (time_filling_packet false n ∷ []) []) ≡ length (cond b (n ∷ []) [])
     one true = refl
@@ -143,6 +139,10 @@ over_queues f blocks lists e = subst (λ x. sum_to 8 (λ m. f (get_or x m [])) �
 empties : (n : ℕ) → map bytes_of (replicate n Empty) ≡ replicate n (replicate 42 0)
 empties zero = refl
 empties (suc n) = ap (λ x. replicate 42 0 ∷ x) (empties n)
+
+-- slots and the empty ones that fill up the last field
+pub padded_length : (slots : List (List ℕ)) (n : ℕ) → length (slots ++ replicate n (replicate 42 0)) ≡ length slots + n
+padded_length slots n = length-append slots (replicate n (replicate 42 0)) ∙ ap (λ m. length slots + m) (length-replicate n (replicate 42 0))
 
 -- laid slots, filled
 pub serial_filled : (lines : ℕ) (info : Option (List ℕ)) (list : List Slot) (slots new : List (List ℕ)) → IsLaid lines info list slots →
@@ -204,15 +204,10 @@ pub filled_most : (lines : ℕ) (info : Option (List ℕ)) (blocks : List Block)
     new ≡ slots ++ replicate (missing lines (length slots)) (replicate 42 0) →
     2 * (packets_in blocks + length blocks * lines + length (used_queues blocks)) + 2 * lines ≤ 65536 → length new ≤ 65536
 filled_most lines info blocks slots new some l e few =
-    let size : length new ≡ length slots + missing lines (length slots) = ap length e
-    ∙ length-append slots (replicate (missing lines (length slots)) (replicate 42 0))
-    ∙ ap (λ n. length slots + n) (length-replicate (missing lines (length slots)) (replicate 42 0)) in
-    let rest : missing lines (length slots) ≤ lines = omega arith in
-    let q : length (serial_list lines blocks) ≡ packets_in blocks + length blocks * lines + length (used_queues blocks) =
-    serial_length lines blocks in
-    let two : length slots ≤ 2 * length (serial_list lines blocks) = (laid_length lines info (serial_list lines blocks) slots l).1 in
-    bound (length new) (length slots) (missing lines (length slots)) (length (serial_list lines blocks)) lines size rest two
-    (subst (λ n. 2 * n + 2 * lines ≤ 65536) (sym q) few)
+    bound (length new) (length slots) (missing lines (length slots)) (length (serial_list lines blocks)) lines
+    (ap length e ∙ padded_length slots (missing lines (length slots))) (omega arith)
+    (laid_length lines info (serial_list lines blocks) slots l).1
+    (subst (λ n. 2 * n + 2 * lines ≤ 65536) (sym (serial_length lines blocks)) few)
   where
     bound : (n s m l lines : ℕ) → n ≡ s + m → m ≤ lines → s ≤ 2 * l → 2 * l + 2 * lines ≤ 65536 → n ≤ 65536
     bound n s m l lines a b c d = omega arith
@@ -231,6 +226,5 @@ filled_some lines info blocks slots new some l e =
       arith,
       serial_some lines blocks some,
       (laid_length lines info (serial_list lines blocks) slots l).0,
-      ap length e,
-      length-append slots (replicate (missing lines (length slots)) (replicate 42 0)),
+      ap length e ∙ padded_length slots (missing lines (length slots)),
     )

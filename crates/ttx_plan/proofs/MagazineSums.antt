@@ -6,17 +6,11 @@ use Rattle.ttx_plan.specs.Counting.{sum_to}
 
 pub sum_same : (f g : ℕ → ℕ) (n : ℕ) → ((m : ℕ) → m < n → f m ≡ g m) → sum_to n f ≡ sum_to n g
 sum_same f g zero h = refl
-sum_same f g (suc n) h =
-    let a : sum_to n f ≡ sum_to n g = sum_same f g n (λ m lt. h m (omega arith)) in
-    let b : f n ≡ g n = h n (omega arith) in
-    omega arith
+sum_same f g (suc n) h = omega (arith, sum_same f g n (λ m lt. h m (omega arith)), h n (omega arith))
 
 pub sum_le : (f g : ℕ → ℕ) (n : ℕ) → ((m : ℕ) → m < n → f m ≤ g m) → sum_to n f ≤ sum_to n g
 sum_le f g zero h = omega arith
-sum_le f g (suc n) h =
-    let a : sum_to n f ≤ sum_to n g = sum_le f g n (λ m lt. h m (omega arith)) in
-    let b : f n ≤ g n = h n (omega arith) in
-    omega arith
+sum_le f g (suc n) h = omega (arith, sum_le f g n (λ m lt. h m (omega arith)), h n (omega arith))
 
 -- one of them has w less
 pub sum_less : (f g : ℕ → ℕ) (w n queue : ℕ) → queue < n → f queue ≡ w + g queue → ((m : ℕ) → m ≢ queue → f m ≡ g m) → sum_to n f ≡ w + sum_to n g
@@ -26,22 +20,15 @@ sum_less f g w (suc n) queue lt here others = elim (cases_eq n queue) as (λ _. 
       let a : sum_to n f ≡ sum_to n g = sum_same f g n (λ m h. others m (λ q. absurd (omega arith))) in
       let b : f n ≡ w + g n = ap f e ∙ here ∙ ap (λ x. w + g x) (sym e) in
       omega arith
-  | inr ne ↦
-      let small : queue < n = omega (arith, lt, ne) in
-      let a : sum_to n f ≡ w + sum_to n g = sum_less f g w n queue small here others in
-      let b : f n ≡ g n = others n ne in
-      omega arith
+  | inr ne ↦ omega (arith, sum_less f g w n queue (omega (arith, lt, ne)) here others, others n ne)
 ]
 
 pub sum_some : (f : ℕ → ℕ) (n : ℕ) → 0 < sum_to n f → (m : ℕ) × (m < n) × (0 < f m)
 sum_some f zero h = absurd (omega arith)
 sum_some f (suc n) h = elim (cases_lt 0 (f n)) as (λ _. (m : ℕ) × (m < suc n) × (0 < f m)) [
   | inl k ↦ (n, omega arith, k)
-  | inr k ↦ more (sum_some f n (omega arith))
+  | inr k ↦ let r = sum_some f n (omega arith) in (r.0, omega (arith, r.1), r.2)
 ]
-  where
-    more : (m : ℕ) × (m < n) × (0 < f m) → (m : ℕ) × (m < suc n) × (0 < f m)
-    more r = (r.0, omega (arith, r.1), r.2)
 
 pub sum_none : (f : ℕ → ℕ) (n : ℕ) → sum_to n f ≡ 0 → (m : ℕ) → m < n → f m ≡ 0
 sum_none f zero h m lt = absurd (omega arith)

@@ -64,25 +64,12 @@ sent_same all some round block e = rw (filter-append, e) (ap (λ z. rounds_to al
 
 -- the blocks that are sent, and how many of them follow a time-filling header
 
-pub list_next : (late : Bool) (all some : List Block) (round : ℕ) (block : Block) → in_round round block ≡ true →
-    with_fillers late [] (rounds_to all round ++ round_of (some ++ block ∷ []) round)
-    ≡ with_fillers late [] (rounds_to all round ++ round_of some round)
-    ++ led (late && is_again (rounds_to all round ++ round_of some round) block) block ∷ []
-list_next late all some round block e =
-    rw (sent_more all some round block e, fillers_next late [] (rounds_to all round ++ round_of some round) block)
-
-pub count_next : (late : Bool) (all some : List Block) (round : ℕ) (block : Block) → in_round round block ≡ true →
-    fillers_in (with_fillers late [] (rounds_to all round ++ round_of (some ++ block ∷ []) round))
-    ≡ fillers_in (with_fillers late [] (rounds_to all round ++ round_of some round))
-    + cond (late && is_again (rounds_to all round ++ round_of some round) block) 1 0
-count_next late all some round block e =
-    let first = with_fillers late [] (rounds_to all round ++ round_of some round) in
-    let last = led (late && is_again (rounds_to all round ++ round_of some round) block) block in
-    ap fillers_in (list_next late all some round block e) ∙ sum_by-append (λ (x : Block). cond x.filler 1 0) first (last ∷ [])
-    ∙ ap (λ n. fillers_in (with_fillers late [] (rounds_to all round ++ round_of some round)) + n) (one last)
-  where
-    one : (x : Block) → fillers_in (x ∷ []) ≡ cond x.filler 1 0
-    one x = omega (arith, sum_by-cons (λ (y : Block). cond y.filler 1 0) x [])
+one_more : (xs : List Block) (x : Block) → fillers_in xs + cond x.filler 1 0 ≡ fillers_in (xs ++ x ∷ [])
+one_more xs x = omega (
+  arith,
+  sum_by-append (λ (y : Block). cond y.filler 1 0) xs (x ∷ []),
+  sum_by-cons (λ (y : Block). cond y.filler 1 0) x [],
+)
 
 -- the lists after one more block: `next` is `some` with the block
 pub sent_then : (late : Bool) (all some next : List Block) (round : ℕ) (block : Block) (filler : Bool) (pages : List ℕ)
@@ -93,7 +80,8 @@ pub sent_then : (late : Bool) (all some next : List Block) (round : ℕ) (block 
 sent_then late all some next round block filler pages sent more lt due k f s =
     rw (
       more,
-      list_next late all some round block (eq-eqb (round % (8 / block.often)) block.place due),
+      sent_more all some round block (eq-eqb (round % (8 / block.often)) block.place due),
+      fillers_next late [] (rounds_to all round ++ round_of some round) block,
       s,
       f,
       again_is pages (rounds_to all round ++ round_of some round) block lt k,
@@ -105,13 +93,9 @@ pub count_then : (late : Bool) (all some next : List Block) (round : ℕ) (block
     count ≡ fillers_in (with_fillers late [] (rounds_to all round ++ round_of some round)) →
     count + cond filler 1 0 ≡ fillers_in (with_fillers late [] (rounds_to all round ++ round_of next round))
 count_then late all some next round block filler pages count more lt due k f s =
-    rw (
-      more,
-      count_next late all some round block (eq-eqb (round % (8 / block.often)) block.place due),
-      s,
-      f,
-      again_is pages (rounds_to all round ++ round_of some round) block lt k,
-    )
+    let sent = with_fillers late [] (rounds_to all round ++ round_of some round) in
+    ap (λ n. n + cond filler 1 0) s ∙ one_more sent (led filler block)
+    ∙ ap fillers_in (sent_then late all some next round block filler pages sent more lt due k f refl)
 
 pub keeps_then : (all some next : List Block) (round : ℕ) (block : Block) (pages : List ℕ) → next ≡ some ++ block ∷ [] →
     block.queue < 8 → round % (8 / block.often) ≡ block.place →

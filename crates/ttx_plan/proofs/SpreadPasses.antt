@@ -1,9 +1,9 @@
 -- All blocks that are sent `often` times have their places; those that are sent half as often come next.
-use Rattle.std.proofs.Common.{◌≡◌, ℕ, ◌+◌, ◌/◌, ◌%◌, ◌<◌, ◌≤◌, Bool, cond, eqb, ltb, List, [], ◌∷◌, ◌++◌, length, take}
+use Rattle.std.proofs.Common.{◌≡◌, ℕ, ◌+◌, ◌/◌, ◌%◌, ◌<◌, ◌≤◌, Bool, false, cond, eqb, ltb, List, [], ◌∷◌, ◌++◌, length, take}
 use Rattle.std.proofs.Common.{Some, refl, sym, ap, ◌∙◌, subst, arith, inl, inr, replicate}
 use Rattle.std.specs.Prelude.{slice_get, filter, sum_by}
 use Rattle.std.specs.List.{AllByRecursion}
-use Rattle.std.proofs.lemmas.Bool.{cond-true, cond-false, cases_order, eq-eqb, ne_eqb, lt-ltb, le-ltb}
+use Rattle.std.proofs.lemmas.Bool.{cond-false, cases_order, eq-eqb, ne_eqb, lt-ltb, le-ltb}
 use Rattle.std.proofs.lemmas.List.{take_all, get_or-replicate}
 use Rattle.std.proofs.lemmas.List.Sums.{sum_by-cons, sum_by-append}
 use Rattle.std.proofs.lemmas.Option.{slice_get_within}
@@ -53,22 +53,14 @@ split_here : (often n w : ℕ) → IsOften often → IsOften n →
     cond (ltb (often / 2) n) w 0 ≡ cond (ltb often n) w 0 + cond (eqb n often) w 0
 split_here often n w o p = elim (cases_order often n) [
   | inl same ↦
-      let a = cond-true (ltb (often / 2) n) w 0 (lt-ltb (often / 2) n (omega (arith, same, o.some))) in
-      let b = cond-false (ltb often n) w 0 (le-ltb often n (omega (arith, same))) in
-      let c = cond-true (eqb n often) w 0 (eq-eqb n often (sym same)) in
-      omega (arith, a, b, c)
+      rw (lt-ltb (often / 2) n (omega (arith, same, o.some)), le-ltb often n (omega (arith, same)), eq-eqb n often (sym same)) (omega arith)
   | inr apart ↦ elim apart [
     | inl more ↦
-        let a = cond-true (ltb (often / 2) n) w 0 (lt-ltb (often / 2) n (omega (arith, more))) in
-        let b = cond-true (ltb often n) w 0 (lt-ltb often n more) in
-        let c = cond-false (eqb n often) w 0 (ne_eqb n often (λ (e : n ≡ often). omega (arith, e, more))) in
-        omega (arith, a, b, c)
+        let other : eqb n often ≡ false = ne_eqb n often (λ (e : n ≡ often). omega (arith, e, more)) in
+        rw (lt-ltb (often / 2) n (omega (arith, more)), lt-ltb often n more, other) (omega arith)
     | inr less ↦
-        let half : n ≤ often / 2 = at_most_half often n o p less in
-        let a = cond-false (ltb (often / 2) n) w 0 (le-ltb (often / 2) n half) in
-        let b = cond-false (ltb often n) w 0 (le-ltb often n (omega (arith, less))) in
-        let c = cond-false (eqb n often) w 0 (ne_eqb n often (λ (e : n ≡ often). omega (arith, e, less))) in
-        omega (arith, a, b, c)
+        let other : eqb n often ≡ false = ne_eqb n often (λ (e : n ≡ often). omega (arith, e, less)) in
+        rw (le-ltb (often / 2) n (at_most_half often n o p less), le-ltb often n (omega (arith, less)), other)
   ]
 ]
 

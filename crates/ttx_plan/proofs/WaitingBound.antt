@@ -67,24 +67,15 @@ not_both n every big a b =
     let one : suc n % every ≡ 1 = ap (λ x. x % every) f ∙ mod-mul-add (n / every) every 1 (omega arith) in
     omega arith
 
-pub record Few (before : List Slot) : Type 0 where
-  pub most : infos before ≤ others before + 1
-  pub fewer : ends_info before ≡ false → infos before ≤ others before
+abbrev pub Few : List Slot → Type 0
+Few before = (infos before ≤ others before + 1) × (ends_info before ≡ false → infos before ≤ others before)
 
 pub few_infos : (mags : Magazines) (before : List Slot) → 1 ≤ mags.lines → KeepsTurns mags before → Few before
-few_infos mags [] lines t = record { most = omega arith; fewer = λ _. omega arith }
-few_infos mags (Empty ∷ before) lines t = let r = few_infos mags before lines t.1
-    in record { most = omega (arith, r.most); fewer = λ _. omega (arith, r.most) }
-few_infos mags (Sent m packet ∷ before) lines t = let r = few_infos mags before lines t.1
-    in record { most = omega (arith, r.most); fewer = λ _. omega (arith, r.most) }
+few_infos mags [] lines t = (omega arith, λ _. omega arith)
+few_infos mags (Empty ∷ before) lines t = let r = few_infos mags before lines t.1 in (omega (arith, r.0), λ _. omega (arith, r.0))
+few_infos mags (Sent m packet ∷ before) lines t = let r = few_infos mags before lines t.1 in (omega (arith, r.0), λ _. omega (arith, r.0))
 few_infos mags (Info bytes ∷ before) lines t =
-    let r = few_infos mags before lines t.1 in
-    let here : length before % (50 * mags.lines) ≡ 0 = info_at mags before bytes t.0 in
-    record {
-      most = let k : infos before ≤ others before = r.fewer (apart before t.1 here) in omega arith;
-      fewer = λ e. let f : true
-          ≡ false = e in cc;
-    }
+    (omega (arith, (few_infos mags before lines t.1).1 (apart before t.1 (info_at mags before bytes t.0))), λ e. let f : true ≡ false = e in cc)
   where
     apart : (b : List Slot) → KeepsTurns mags b → length b % (50 * mags.lines) ≡ 0 → ends_info b ≡ false
     apart (Info c ∷ b) t here = absurd (not_both (length b) (50 * mags.lines) (omega arith) (info_at mags b c t.0) here)
@@ -109,8 +100,7 @@ pub left_less : (mags : Magazines) (before : List Slot) (queue : ℕ) (packet : 
     left_of mags before ≡ 1 + left_of mags (Sent queue packet ∷ before)
 left_less mags before queue packet h =
     sum_less (λ m. length (left_in mags before m)) (λ m. length (left_in mags (Sent queue packet ∷ before) m)) 1 8 queue h.0
-    (let e : length (left_in mags before queue) ≡ suc (length (left_in mags (Sent queue packet ∷ before) queue)) = ap length
-    (rest_sent mags before queue packet h.1) in omega arith)
+    (omega (arith, ap length (rest_sent mags before queue packet h.1)))
     (λ m ne. ap length (rest_other mags before queue m packet ne))
 
 work_less : (mags : Magazines) (before : List Slot) (queue : ℕ) (packet : Packet) → IsFrom mags before (Sent queue packet) →
@@ -138,21 +128,19 @@ empty_waits mags before most h some =
     let on : waits mags r.0 before x.0 ≡ true = not-false (waits mags r.0 before x.0) off' in
     let recent : list_any (has_header r.0) (take mags.lines before) ≡ true =
     (and_parts (is_row_or_links x.0.kind) (list_any (has_header r.0) (take mags.lines before)) on).1 in
-    let own : 0 < until (has_header r.0) mags.lines before =
-    ltb-true 0 (until (has_header r.0) mags.lines before) (sym (recent_until (has_header r.0) mags.lines before) ∙ recent) in
-    let more : until (has_header r.0) mags.lines before ≤ until has_any_header mags.lines before =
-    until_more (has_header r.0) has_any_header mags.lines before (has_any_header_of r.0) in
-    omega arith
+    omega (
+      arith,
+      ltb-true 0 (until (has_header r.0) mags.lines before) (sym (recent_until (has_header r.0) mags.lines before) ∙ recent),
+      until_more (has_header r.0) has_any_header mags.lines before (has_any_header_of r.0),
+    )
 
 pub total_falls : (mags : Magazines) (before : List Slot) (slot : Slot) → turn_from before ≤ 8 → slot ≡ slot_after mags before →
     0 < left_of mags before → total mags (slot ∷ before) ≤ total mags before
-total_falls mags before Empty most h some = let w : 0 < until has_any_header mags.lines before = empty_waits mags before most h some in omega arith
+total_falls mags before Empty most h some = omega (arith, empty_waits mags before most h some)
 total_falls mags before (Info bytes) most h some = omega arith
 total_falls mags before (Sent queue packet) most h some =
     let from : IsFrom mags before (Sent queue packet) = subst (IsFrom mags before) (sym h) (turn_from_queues mags before) in
-    let less : work_of mags before ≡ cond (is_page_header packet.kind) (suc mags.lines) 1 + work_of mags (Sent queue packet ∷ before) =
-    work_less mags before queue packet from in
-    by (is_page_header packet.kind) less
+    by (is_page_header packet.kind) (work_less mags before queue packet from)
   where
     by : (b : Bool) → work_of mags before ≡ cond b (suc mags.lines) 1 + work_of mags (Sent queue packet ∷ before) →
         suc (others before) + cond b mags.lines (until has_any_header mags.lines before - 1) + work_of mags (Sent queue packet ∷ before)
@@ -163,10 +151,11 @@ total_falls mags before (Sent queue packet) most h some =
 work_some : (lines : ℕ) (packets : List Packet) → length packets ≤ slots_for lines packets
 work_some lines [] = omega arith
 work_some lines (packet ∷ rest) =
-    let h : length rest ≤ slots_for lines rest = work_some lines rest in
-    let k : 1 ≤ cond (is_page_header packet.kind) (suc lines) 1 =
-    cond_both (is_page_header packet.kind) (suc lines) 1 (λ x. 1 ≤ x) (λ _. omega arith) (λ _. omega arith) in
-    omega arith
+    omega (
+      arith,
+      work_some lines rest,
+      cond_both (is_page_header packet.kind) (suc lines) 1 (λ x. 1 ≤ x) (λ _. omega arith) (λ _. omega arith),
+    )
 
 pub left_work : (mags : Magazines) (before : List Slot) → left_of mags before ≤ work_of mags before
 left_work mags before = sum_le (λ m. length (left_in mags before m)) (λ m. slots_for mags.lines (left_in mags before m)) 8
@@ -176,8 +165,7 @@ left_work mags before = sum_le (λ m. length (left_in mags before m)) (λ m. slo
 pub room : (mags : Magazines) (before : List Slot) (q : ℕ) → 1 ≤ mags.lines → KeepsTurns mags before → total mags before ≤ q → 2 * q
     ≤ 65536 → 0 < left_of mags before → length before < 65536
 room mags before q lines t most small some =
-    let f = few_infos mags before lines t in
-    omega (arith, all_slots before, f.most, left_work mags before)
+    omega (arith, all_slots before, (few_infos mags before lines t).0, left_work mags before)
 
 pub sent_most : (mags : Magazines) (before : List Slot) → KeepsTurns mags before → (m : ℕ) → m < 8 → sent_by m before ≤ length (queue_of mags m)
 sent_most mags [] t m lt = omega arith

@@ -37,9 +37,7 @@ loop-index-preserved c =
             room = λ round.
                 let most = added_most c.loop-index.packets w.add_packets.new.packets _ w.first_least-place.result w.block_length.result round
                 w.add_packets.auto.packets w.block_length.ensures.few w.add_packets.ensures in
-                let before = was.room round in
-                let after = ap (λ x. get_or x round 0) w.packets-is in
-                omega (arith, most, before, after);
+                omega (arith, most, was.room round, ap (λ x. get_or x round 0) w.packets-is);
           }
       | else-times-often w ↦
           let listed = listed_page (slice_get pages n) c.times.result c.times.ensures.value in
@@ -50,19 +48,19 @@ loop-index-preserved c =
             small = rw w.places-is was.small;
             spread = rw w.places-is passed.0;
             counted = rw (w.packets-is, w.places-is) passed.1;
-            room = λ round.
-                let before = was.room round in
-                let after = ap (λ x. get_or x round 0) w.packets-is in
-                omega (arith, before, after);
+            room = λ round. omega (arith, was.room round, ap (λ x. get_or x round 0) w.packets-is);
           }
     ]
 
 pub burdens-burdens-requires-clause-packets : goal.burdens-burdens-requires-clause-packets
 burdens-burdens-requires-clause-packets c = (
   c.loop-index.invariant.counted.eight,
-  λ round.
-      let now = c.loop-index.invariant.room round in
-      let before = c.requires.room round in
-      let few = c.pages-pages.ensures.ranges.count in
-      omega (arith, now, before, few, c.pages-pages.ensures.count, c.loop-index-test.true),
+  λ round. omega (
+    arith,
+    c.loop-index.invariant.room round,
+    c.requires.room round,
+    c.pages-pages.ensures.ranges.count,
+    c.pages-pages.ensures.count,
+    c.loop-index-test.true,
+  ),
 )

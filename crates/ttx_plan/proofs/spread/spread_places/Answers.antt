@@ -42,10 +42,7 @@ loop-often-preserved c =
           c.place_pages.ensures.spread;
       counted = counted_pass c.place_pages.new.packets (placed c.place_pages.new.places (blocks_of c.args.class c.args.service.now.pages))
           c.loop-often.often _ is often size c.place_pages.ensures.counted;
-      room = λ round.
-          let more = c.place_pages.ensures.room round in
-          let before = c.loop-often.invariant.room round in
-          omega (arith, more, before, c.loop-often-test.true);
+      room = λ round. omega (arith, c.place_pages.ensures.room round, c.loop-often.invariant.room round, c.loop-often-test.true);
     }
 
 pub returns-clause-spread : goal.returns-clause-spread
