@@ -169,13 +169,17 @@ class Runs:
         if not is_right:
             self.failures.append(f"{self.words}, {call}: status {answer[0]}, {answer[1][:80]!r}, {answer[2][:80]!r}, OUT of {len(answer[3])} bytes")
 
+    def is_cut_by(self, ample, errors, words):
+        """Whether standard error has the beginning of what it has otherwise, and then these words."""
+        return errors.endswith(words) and ample.startswith(errors.removesuffix(words))
+
     def refuse_growths(self):
         """How many allocations there are, and how many of them end in `fault: memory` when they fail."""
         ample, (growths, _, _) = self.counted()
         told = 0
         for n in range(1, growths + 2):
             answer = self.run(growth=n)
-            is_told = answer == (3, b"", b"fault: memory\n", b"")
+            is_told = (answer[0], answer[1], answer[3]) == (3, b"", b"") and self.is_cut_by(ample[2], answer[2], b"fault: memory\n")
             told += is_told
             self.expect(answer == ample or (is_told and n <= growths), answer, f"growth {n} of {growths}")
         self.expect(told > 0, ample, f"none of {growths} growths ends in fault: memory")
@@ -213,7 +217,7 @@ class AirRuns(Runs):
 
     def is_ended(self, ample, answer, words):
         """Whether no packets went out, and the log has the beginning of what it has otherwise, and then these words."""
-        return answer[:2] == (3, b"") and answer[2].endswith(words) and ample[2].startswith(answer[2].removesuffix(words))
+        return answer[:2] == (3, b"") and self.is_cut_by(ample[2], answer[2], words)
 
     def refuse_growths(self):
         ample, (growths, _, _) = self.counted()
