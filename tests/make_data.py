@@ -571,6 +571,18 @@ def missed():
     }
 
 
+def air_logs():
+    """The log of the air of base.toml for two fields; the same with another number of pages; and its beginning."""
+    digest = hashlib.sha256(BASE_TEXT.encode()).hexdigest()
+    at = "2025-11-21T12:30:45+00:00"
+    log = (
+        "air within 250 repeat 1 at-once plain lines 2 fields 2 at 61000/123045 ahead 0\n"
+        f"field 0 {at} on air {digest}: 1 page, deadline 250 fields (5.00 s), 28 slots\n"
+        f"field 2 {at} end\n"
+    )
+    return {"air.log": log, "air-other.log": log.replace("1 page", "2 pages"), "air-cut.log": log[: log.rindex("T")]}
+
+
 def main():
     folder = Path(sys.argv[1])
     folder.mkdir(parents=True, exist_ok=True)
@@ -647,7 +659,7 @@ def main():
         "slots-052.counter": counter(1, 52, 26, 23).replace("slots 52", "slots 052"),
         "slots-51.counter": counter(1, 51, 26, 23),
         "clearing.cert": "ttx certificate 2\nclass clearing\nlines 2\nrepeat 1\ndeadline 2\n100/0000 head 0\n",
-    } | services() | refused_services() | checked_services() | authors_texts() | certifying_texts() | splicing_texts() | extracted_texts() | missed() | reports()
+    } | services() | refused_services() | checked_services() | authors_texts() | certifying_texts() | splicing_texts() | extracted_texts() | missed() | reports() | air_logs()
     for name, text in texts.items():
         (folder / name).write_text(text)
     subpages = [sub for sub in range(0x3F7F) if sub & ~0x3F7F == 0][:1214]
