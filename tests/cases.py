@@ -114,8 +114,8 @@ def differences(program, case):
         for name in case.get("absent", []):
             if os.path.exists(os.path.join(folder, name)):
                 yield f"there is a file {name}"
-        # certify gives two equal readings of a cycle the verdict of the cycle; with --late it reads the cycle once, and --within, --all and --json take no --twice
-        twice = words[:1] == [b"certify"] and not {b"--late", b"--within", b"--all", b"--json"} & set(words) and not {"stdin", "stdout-to", "stderr-to"} & case.keys()
+        # certify gives two equal readings of a cycle the verdict of the cycle; with --late it reads the cycle once, and --within and --all take no --twice
+        twice = words[:1] == [b"certify"] and not {b"--late", b"--within", b"--all", b"--twice"} & set(words) and not {"stdin", "stdout-to", "stderr-to"} & case.keys()
         if twice and case.get("status", 0) < 2:
             status, results = run(program, case, words + [b"--twice"], folder)
             if (status, results["stdout"]) != (case.get("status", 0), wanted(case, "stdout")):
