@@ -11,7 +11,7 @@ use Rattle.ttx_packet.specs.Receptions.{MayBeReceivedAs}
 use Rattle.ttx_packet.specs.Laws.{KindIsKept}
 use Rattle.ttx_header.specs.Laws.{HeaderIsKept}
 use Rattle.ttx_header.specs.Ids.{Id}
-use Rattle.ttx_page.specs.Packets.{Packet, Empty, Unreadable, Header, Row, Links, Info, Other, packet_of}
+use Rattle.ttx_page.specs.Packets.{Packet, Header, packet_of}
 use Rattle.ttx_page.specs.Pages.{selected_mag, matches}
 use Rattle.ttx_page.specs.declared.selection.Selection.{Selection}
 use Rattle.ttx_page.specs.declared.selection.Selection.TheVariants.{Exact, AnySub}
@@ -39,12 +39,7 @@ another_is sel page mag number (Header id control text) h = (
   subst (λ m. (id.mag == m) ≡ true) (sym mag) ((and_parts (id.mag == page.mag) _ h).0),
   and_right (id.mag == selected_mag sel) _ (subst (λ n. (id.page == n) ≡ false) (sym number) (not-true _ ((and_parts (id.mag == page.mag) _ h).1))),
 )
-another_is sel page mag number (Row m n text) h = absurd (both_ways false refl h)
-another_is sel page mag number (Links m content) h = absurd (both_ways false refl h)
-another_is sel page mag number Empty h = absurd (both_ways false refl h)
-another_is sel page mag number Unreadable h = absurd (both_ways false refl h)
-another_is sel page mag number Info h = absurd (both_ways false refl h)
-another_is sel page mag number Other h = absurd (both_ways false refl h)
+another_is sel page mag number x h = absurd (both_ways false refl h)
 
 -- each slot of a list passes the tests that the stream's slot passes
 abbrev pub AreOf : Stream → ℤ → List (List ℕ) → Type 0

@@ -1,5 +1,5 @@
 -- Whether a header is followed by one with another page number, read round the cycle.
-use Rattle.std.proofs.Common.{◌+ℤ◌, ◌≤ℤ◌, ◌≡◌, ℕ, ◌+◌, ◌-◌, ◌%◌, ◌<◌, ◌≤◌, ℤ, pos, ◌-ℤ◌, ◌<ℤ◌, nat_abs, Bool, true, false, not, ◌&&◌, ◌==◌, List, []}
+use Rattle.std.proofs.Common.{◌+ℤ◌, ◌≤ℤ◌, ◌≡◌, ℕ, ◌+◌, ◌-◌, ◌%◌, ◌<◌, ◌≤◌, ℤ, pos, ◌-ℤ◌, ◌<ℤ◌, nat_abs, Bool, true, false, ◌&&◌, ◌==◌, List, []}
 use Rattle.std.proofs.Common.{length, get_or, slice_get, Option, Some, None, SomeIff, MatchOption, refl, sym, ap, ◌∙◌, subst, inl, inr, arith}
 use Rattle.std.proofs.Common.{eqb-true, eq-eqb, mod-eq_of_lt}
 use Rattle.std.proofs.lemmas.Int.{ints}
@@ -7,12 +7,12 @@ use Rattle.std.proofs.lemmas.Bool.{cases_lt, and_from, and_parts, both_ways}
 use Rattle.std.proofs.lemmas.Option.{slice_get_within}
 use Rattle.std.proofs.Math.Nat.{add-mod_right}
 use Rattle.ttx_page.proofs.SlotDistances.{cases_ltz}
-use Rattle.ttx_packet.specs.Slots.{IsSlot, Kind, IsEmpty, IsUnreadable, IsHeader, IsRow, IsLinks, IsInfo, IsOther, kind_of}
+use Rattle.ttx_packet.specs.Slots.{IsSlot, Kind, IsHeader, kind_of}
 use Rattle.ttx_header.specs.Ids.{Id, same_id}
 use Rattle.ttx_header.specs.Fields.{HeaderFields}
 use Rattle.ttx_header.specs.Headers.{id_of, header_fields_of, is_header}
 use Rattle.ttx_header.specs.Laws.{HeadersHaveFields, HeadersAreHeaders}
-use Rattle.ttx_page.specs.Packets.{Packet, Empty, Unreadable, Header, Row, Links, Info, Other, packet_of, packet_of_kind}
+use Rattle.ttx_page.specs.Packets.{Packet, Header, packet_of, packet_of_kind}
 use Rattle.ttx_page.specs.Pages.{Page}
 use Rattle.ttx_page.specs.Streams.{turned, repeated, heads, heads_page, IsLatestHeader}
 use Rattle.ttx_page.specs.Laws.{EachSlotTurns, StreamsMove}
@@ -35,58 +35,11 @@ id_told slot is fields headers None none = go (kind_of slot) refl
   where
     go : (k : Kind) → kind_of slot ≡ k → HoldsNoId (packet_of slot)
     go (IsHeader mag) e = absurd (none (fields slot mag is e).header)
-    go IsEmpty e = subst HoldsNoId (sym (packet_is slot IsEmpty e)) tt
-    go IsUnreadable e = subst HoldsNoId (sym (packet_is slot IsUnreadable e)) tt
-    go (IsRow mag number) e = subst HoldsNoId (sym (packet_is slot (IsRow mag number) e)) tt
-    go (IsLinks mag) e = subst HoldsNoId (sym (packet_is slot (IsLinks mag) e)) tt
-    go IsInfo e = subst HoldsNoId (sym (packet_is slot IsInfo e)) tt
-    go (IsOther mag number) e = subst HoldsNoId (sym (packet_is slot (IsOther mag number) e)) tt
-
-pub heads_told : (id : Id) (mag : ℕ) (packet : Packet) → HoldsId id packet → heads mag packet ≡ (id.mag == mag)
-heads_told id mag (Header own control text) h = ap (λ x. x.mag == mag) (sym h)
-heads_told id mag Empty h = absurd h
-heads_told id mag Unreadable h = absurd h
-heads_told id mag (Row m n t) h = absurd h
-heads_told id mag (Links m c) h = absurd h
-heads_told id mag Info h = absurd h
-heads_told id mag Other h = absurd h
-
-pub another_told : (id page : Id) (packet : Packet) → HoldsId id packet → heads_another page packet
-    ≡ ((id.mag == page.mag) && not (id.page == page.page))
-another_told id page (Header own control text) h = ap (λ x. (x.mag == page.mag) && not (x.page == page.page)) (sym h)
-another_told id page Empty h = absurd h
-another_told id page Unreadable h = absurd h
-another_told id page (Row m n t) h = absurd h
-another_told id page (Links m c) h = absurd h
-another_told id page Info h = absurd h
-another_told id page Other h = absurd h
-
-pub no_heads : (mag : ℕ) (packet : Packet) → HoldsNoId packet → heads mag packet ≡ false
-no_heads mag (Header own control text) h = absurd h
-no_heads mag Empty h = refl
-no_heads mag Unreadable h = refl
-no_heads mag (Row m n t) h = refl
-no_heads mag (Links m c) h = refl
-no_heads mag Info h = refl
-no_heads mag Other h = refl
-
-pub no_another : (page : Id) (packet : Packet) → HoldsNoId packet → heads_another page packet ≡ false
-no_another page (Header own control text) h = absurd h
-no_another page Empty h = refl
-no_another page Unreadable h = refl
-no_another page (Row m n t) h = refl
-no_another page (Links m c) h = refl
-no_another page Info h = refl
-no_another page Other h = refl
+    go k e = subst HoldsNoId (sym (packet_is slot k e)) tt
 
 pub no_page : (page : Id) (packet : Packet) → HoldsNoId packet → heads_page page packet ≡ false
 no_page page (Header own control text) h = absurd h
-no_page page Empty h = refl
-no_page page Unreadable h = refl
-no_page page (Row m n t) h = refl
-no_page page (Links m c) h = refl
-no_page page Info h = refl
-no_page page Other h = refl
+no_page page x h = refl
 
 same_is : (a b : Id) → same_id a b ≡ true → a ≡ b
 same_is a b h =
@@ -117,30 +70,15 @@ self_is a = and_from _ _ (and_from _ _ (eq-eqb a.mag a.mag refl) (eq-eqb a.page 
 -- the page of a header is the one whose id it contains
 pub page_told : (id page : Id) (packet : Packet) → HoldsId id packet → heads_page page packet ≡ true → page ≡ id
 page_told id page (Header own control text) h head = same_is page own head ∙ sym h
-page_told id page Empty h head = absurd h
-page_told id page Unreadable h head = absurd h
-page_told id page (Row m n t) h head = absurd h
-page_told id page (Links m c) h head = absurd h
-page_told id page Info h head = absurd h
-page_told id page Other h head = absurd h
+page_told id page x h head = absurd h
 
 pub own_page : (id : Id) (packet : Packet) → HoldsId id packet → heads_page id packet ≡ true
 own_page id (Header own control text) h = subst (λ x. same_id id x ≡ true) h (self_is id)
-own_page id Empty h = absurd h
-own_page id Unreadable h = absurd h
-own_page id (Row m n t) h = absurd h
-own_page id (Links m c) h = absurd h
-own_page id Info h = absurd h
-own_page id Other h = absurd h
+own_page id x h = absurd h
 
 another_heads : (page : Id) (packet : Packet) → heads_another page packet ≡ true → heads page.mag packet ≡ true
 another_heads page (Header own control text) h = (and_parts _ _ h).0
-another_heads page Empty h = absurd (both_ways false refl h)
-another_heads page Unreadable h = absurd (both_ways false refl h)
-another_heads page (Row m n t) h = absurd (both_ways false refl h)
-another_heads page (Links m c) h = absurd (both_ways false refl h)
-another_heads page Info h = absurd (both_ways false refl h)
-another_heads page Other h = absurd (both_ways false refl h)
+another_heads page x h = absurd (both_ways false refl h)
 
 module _ (cycle : List (List ℕ)) (page : Id) (at : ℕ) (inside : at < length cycle) where
   -- the slot that many slots after the next one

@@ -3,7 +3,7 @@ use Rattle.std.proofs.Common.{◌≡◌, ◌⊎◌, ℕ, zero, suc, ◌-◌, ◌
 use Rattle.std.proofs.Common.{inr, arith}
 use Rattle.std.proofs.lemmas.Bool.{and_from, and_parts, both_ways, cases_Bool}
 use Rattle.ttx_page.proofs.Decisions.{eq_sym}
-use Rattle.ttx_page.specs.Packets.{Packet, Empty, Unreadable, Header, Row, Links, Info, Other, packet_of}
+use Rattle.ttx_page.specs.Packets.{Packet, Header, packet_of}
 use Rattle.ttx_page.specs.Pages.{selected_mag}
 use Rattle.ttx_page.specs.declared.selection.Selection.{Selection}
 use Rattle.ttx_page.specs.declared.selection.Selection.TheVariants.{Exact, AnySub}
@@ -31,12 +31,7 @@ AllEnd sel gap (slot ∷ rest) = (heads_matched sel (packet_of slot) ≡ true �
 -- a header with the page number is one of the magazine
 pub number_heads : (sel : Selection) (pkt : Packet) → heads_number sel pkt ≡ true → heads (selected_mag sel) pkt ≡ true
 number_heads sel (Header id control text) h = (and_parts _ _ h).0
-number_heads sel (Row mag number text) h = absurd (both_ways false refl h)
-number_heads sel (Links mag content) h = absurd (both_ways false refl h)
-number_heads sel Empty h = absurd (both_ways false refl h)
-number_heads sel Unreadable h = absurd (both_ways false refl h)
-number_heads sel Info h = absurd (both_ways false refl h)
-number_heads sel Other h = absurd (both_ways false refl h)
+number_heads sel x h = absurd (both_ways false refl h)
 
 -- a header that the selection matches has its page number
 pub matched_number : (sel : Selection) (pkt : Packet) → heads_matched sel pkt ≡ true → heads_number sel pkt ≡ true
@@ -45,12 +40,7 @@ matched_number (Exact own) (Header id control text) h =
     (eq_sym own.page id.page ((and_parts (own.mag == id.mag) _ (and_parts _ _ h).0).1))
 matched_number (AnySub mag page) (Header id control text) h =
     and_from _ _ (eq_sym mag id.mag ((and_parts _ _ h).0)) (eq_sym page id.page ((and_parts (mag == id.mag) _ h).1))
-matched_number sel (Row mag number text) h = absurd (both_ways false refl h)
-matched_number sel (Links mag content) h = absurd (both_ways false refl h)
-matched_number sel Empty h = absurd (both_ways false refl h)
-matched_number sel Unreadable h = absurd (both_ways false refl h)
-matched_number sel Info h = absurd (both_ways false refl h)
-matched_number sel Other h = absurd (both_ways false refl h)
+matched_number sel x h = absurd (both_ways false refl h)
 
 -- if the next header has another page number, nothing is forgotten
 pub no_number : (sel : Selection) (slot : List ℕ) (rest : List (List ℕ)) (k : ℕ) → Ends sel (slot ∷ rest) k →

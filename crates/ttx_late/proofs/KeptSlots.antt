@@ -3,12 +3,12 @@
 use Rattle.std.proofs.Common.{◌≡◌, ℕ, ◌<◌, ◌≤◌, true, List, [], get_or, refl, sym, ap, ◌∙◌, subst, inl, inr, arith}
 use Rattle.std.proofs.lemmas.Bool.{cond_both, both_ways, cases_Bool}
 use Rattle.ttx_code.specs.Words.{Near}
-use Rattle.ttx_packet.specs.Slots.{IsSlot, Kind, IsEmpty, IsUnreadable, IsHeader, IsRow, IsLinks, IsInfo, IsOther, is_empty, kind_of, is_clean}
+use Rattle.ttx_packet.specs.Slots.{IsSlot, Kind, IsEmpty, IsHeader, is_empty, kind_of, is_clean}
 use Rattle.ttx_packet.specs.Receptions.{IsFree, MayBeReceivedAs}
 use Rattle.ttx_packet.specs.Laws.{KindIsKept}
 use Rattle.ttx_header.specs.Headers.{id_of, control_of}
 use Rattle.ttx_header.specs.Laws.{HeaderIsKept}
-use Rattle.ttx_page.specs.Packets.{Packet, Empty, Unreadable, Header, Row, Links, Info, Other, packet_of, packet_of_kind}
+use Rattle.ttx_page.specs.Packets.{Packet, Empty, Header, Other, packet_of, packet_of_kind}
 use Rattle.ttx_page.specs.declared.selection.Selection.{Selection}
 use Rattle.ttx_page.specs.Streams.{heads, heads_matched, ends_serial}
 use Rattle.ttx_late.specs.LateReceivers.{heads_number}
@@ -16,12 +16,7 @@ use Rattle.ttx_late.specs.LateReceivers.{heads_number}
 -- the header in a packet; all other packets are the same
 abbrev pub outline : Packet → Packet
 outline (Header id control text) = Header id control []
-outline (Row mag number text) = Other
-outline (Links mag content) = Other
-outline Empty = Other
-outline Unreadable = Other
-outline Info = Other
-outline Other = Other
+outline x = Other
 
 packet_is : (slot : List ℕ) → packet_of slot ≡ packet_of_kind slot (kind_of slot)
 unfolding packet_of
@@ -55,48 +50,23 @@ received_as kind header sent received s clean h =
     same_outline (IsHeader mag) e =
         let kept = header sent received mag s h.slot clean e (near_header sent received mag e h) in
         ap (λ id. Header id (control_of received) []) kept.0 ∙ ap (λ control. Header (id_of sent) control []) kept.1
-    same_outline IsEmpty e = refl
-    same_outline IsUnreadable e = refl
-    same_outline (IsRow mag number) e = refl
-    same_outline (IsLinks mag) e = refl
-    same_outline IsInfo e = refl
-    same_outline (IsOther mag number) e = refl
+    same_outline k e = refl
 
 matched_outline : (sel : Selection) (pkt : Packet) → heads_matched sel (outline pkt) ≡ heads_matched sel pkt
 matched_outline sel (Header id control text) = refl
-matched_outline sel (Row mag number text) = refl
-matched_outline sel (Links mag content) = refl
-matched_outline sel Empty = refl
-matched_outline sel Unreadable = refl
-matched_outline sel Info = refl
-matched_outline sel Other = refl
+matched_outline sel x = refl
 
 heads_outline : (mag : ℕ) (pkt : Packet) → heads mag (outline pkt) ≡ heads mag pkt
 heads_outline mag (Header id control text) = refl
-heads_outline mag (Row m number text) = refl
-heads_outline mag (Links m content) = refl
-heads_outline mag Empty = refl
-heads_outline mag Unreadable = refl
-heads_outline mag Info = refl
-heads_outline mag Other = refl
+heads_outline mag x = refl
 
 number_outline : (sel : Selection) (pkt : Packet) → heads_number sel (outline pkt) ≡ heads_number sel pkt
 number_outline sel (Header id control text) = refl
-number_outline sel (Row m number text) = refl
-number_outline sel (Links m content) = refl
-number_outline sel Empty = refl
-number_outline sel Unreadable = refl
-number_outline sel Info = refl
-number_outline sel Other = refl
+number_outline sel x = refl
 
 ends_outline : (mag : ℕ) (pkt : Packet) → ends_serial mag (outline pkt) ≡ ends_serial mag pkt
 ends_outline mag (Header id control text) = refl
-ends_outline mag (Row m number text) = refl
-ends_outline mag (Links m content) = refl
-ends_outline mag Empty = refl
-ends_outline mag Unreadable = refl
-ends_outline mag Info = refl
-ends_outline mag Other = refl
+ends_outline mag x = refl
 
 -- what is received passes the same tests as what was sent
 pub record SameTests (sent received : List ℕ) : Type 0 where

@@ -7,7 +7,7 @@ use Rattle.ttx_page.proofs.SlotDistances.{cases_ltz}
 use Rattle.ttx_packet.specs.Laws.{KindIsKept}
 use Rattle.ttx_header.specs.Laws.{HeaderIsKept}
 use Rattle.ttx_header.specs.Ids.{Id}
-use Rattle.ttx_page.specs.Packets.{Packet, Empty, Unreadable, Header, Row, Links, Info, Other, packet_of}
+use Rattle.ttx_page.specs.Packets.{Packet, Header, packet_of}
 use Rattle.ttx_page.specs.Pages.{selected_mag}
 use Rattle.ttx_page.specs.declared.selection.Selection.{Selection}
 use Rattle.ttx_page.specs.declared.class.Class.{Class}
@@ -43,12 +43,7 @@ own_number sel page mag number (Header id control text) head other =
       | inl e ↦ e
       | inr ne ↦ absurd (both_ways _ other (and_from (id.mag == page.mag) (not (id.page == page.page)) head (not_from_false _ ne)))
     ]))
-own_number sel page mag number (Row m n text) head other = absurd (both_ways false refl head)
-own_number sel page mag number (Links m content) head other = absurd (both_ways false refl head)
-own_number sel page mag number Empty head other = absurd (both_ways false refl head)
-own_number sel page mag number Unreadable head other = absurd (both_ways false refl head)
-own_number sel page mag number Info head other = absurd (both_ways false refl head)
-own_number sel page mag number Other head other = absurd (both_ways false refl head)
+own_number sel page mag number x head other = absurd (both_ways false refl head)
 
 module _ (s : Stream) (page : Id) (sel : Selection) (mag : selected_mag sel ≡ page.mag) (number : selected_number sel ≡ page.page)
     (never : IsNeverFollowed s page) where

@@ -8,7 +8,7 @@ use Rattle.ttx_page.proofs.SlotDistances.{cases_ltz}
 use Rattle.ttx_packet.specs.Laws.{KindIsKept}
 use Rattle.ttx_header.specs.Laws.{HeaderIsKept}
 use Rattle.ttx_header.specs.Ids.{Id}
-use Rattle.ttx_page.specs.Packets.{Packet, Empty, Unreadable, Header, Row, Links, Info, Other, packet_of}
+use Rattle.ttx_page.specs.Packets.{Packet, Header, packet_of}
 use Rattle.ttx_page.specs.Pages.{Page, IsPage, selected_mag, matches, needed}
 use Rattle.ttx_page.specs.declared.selection.Selection.{Selection}
 use Rattle.ttx_page.specs.declared.selection.Selection.TheVariants.{Exact, AnySub}
@@ -32,7 +32,8 @@ use Rattle.ttx_certify.proofs.LaterReceptions.{received_later}
 use Rattle.ttx_late.proofs.FollowedReceptions.{mag_is, number_is, AreOf, of_received, all_end, received_before}
 
 -- a header of a page is matched by each selection that matches the page
-pub page_matched : (sel : Selection) (page : Id) → matches sel page ≡ true → (pkt : Packet) → heads_page page pkt ≡ true → heads_matched sel pkt ≡ true
+pub page_matched : (sel : Selection) (page : Id) → matches sel page ≡ true → (pkt : Packet) → heads_page page pkt ≡ true →
+    heads_matched sel pkt ≡ true
 page_matched sel page fits (Header id control text) h =
     let mag = eqb-true page.mag id.mag ((and_parts _ _ (and_parts _ _ h).0).0) in
     let number = eqb-true page.page id.page ((and_parts (page.mag == id.mag) _ (and_parts _ _ h).0).1) in
@@ -46,12 +47,7 @@ page_matched sel page fits (Header id control text) h =
         (subst (λ x. ((own.mag == x) && (own.page == page.page) && (own.sub == page.sub)) ≡ true) mag fits))
     by (AnySub m n) fits mag number sub =
         subst (λ x. ((m == id.mag) && (n == x)) ≡ true) number (subst (λ x. ((m == x) && (n == page.page)) ≡ true) mag fits)
-page_matched sel page fits (Row m n text) h = absurd (both_ways false refl h)
-page_matched sel page fits (Links m content) h = absurd (both_ways false refl h)
-page_matched sel page fits Empty h = absurd (both_ways false refl h)
-page_matched sel page fits Unreadable h = absurd (both_ways false refl h)
-page_matched sel page fits Info h = absurd (both_ways false refl h)
-page_matched sel page fits Other h = absurd (both_ways false refl h)
+page_matched sel page fits x h = absurd (both_ways false refl h)
 
 -- a run can be cut and joined
 split : (class : Class) (lines : ℕ) (sel : Selection) (before rest : List (List ℕ)) (d new : LateMemory) →

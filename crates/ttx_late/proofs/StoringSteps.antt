@@ -2,7 +2,7 @@
 use Rattle.std.proofs.Common.{◌≡◌, ◌⊎◌, ℕ, Bool, true, false, not, ◌&&◌, ◌==◌, [], Some, None, get_or, refl, sym, ◌∙◌, subst, inl, inr}
 use Rattle.std.proofs.lemmas.Bool.{and_parts, cond_both, both_ways}
 use Rattle.ttx_header.specs.Control.{c11}
-use Rattle.ttx_page.specs.Packets.{Packet, Empty, Unreadable, Header, Row, Links, Info, Other}
+use Rattle.ttx_page.specs.Packets.{Packet, Header, Row, Links}
 use Rattle.ttx_page.specs.Pages.{Page, selected_mag, matches}
 use Rattle.ttx_page.specs.declared.selection.Selection.{Selection}
 use Rattle.ttx_page.specs.declared.class.Class.{Class}
@@ -65,21 +65,13 @@ module _ (class : Class) (lines : ℕ) (sel : Selection) where
       cond_both ((mag == selected_mag sel) && m.storing && not (misses lines choice m)) (with_links m (Some content)) m
       (λ (new : Memory). new.storing ≡ true → (false ≡ true) ⊎ ((m.storing ≡ true) × (false ≡ false))) (λ _ h. inr (h, refl))
       (λ _ h. inr (h, refl)) st
-  after_storing choice m Empty h = inr (h, refl)
-  after_storing choice m Unreadable h = inr (h, refl)
-  after_storing choice m Info h = inr (h, refl)
-  after_storing choice m Other h = inr (h, refl)
+  after_storing choice m x h = inr (h, refl)
 
   -- a header that the selection matches begins storing
   pub after_matched : (choice : Bool) (m : Memory) (pkt : Packet) → heads_matched sel pkt ≡ true → (after class lines sel choice m pkt).storing ≡ true
   after_matched choice m (Header id control text) h =
       cond_both (matches sel id) _ _ (λ (new : Memory). new.storing ≡ true) (λ _. refl) (λ e. absurd (both_ways _ e h))
-  after_matched choice m (Row mag number text) h = absurd (both_ways false refl h)
-  after_matched choice m (Links mag content) h = absurd (both_ways false refl h)
-  after_matched choice m Empty h = absurd (both_ways false refl h)
-  after_matched choice m Unreadable h = absurd (both_ways false refl h)
-  after_matched choice m Info h = absurd (both_ways false refl h)
-  after_matched choice m Other h = absurd (both_ways false refl h)
+  after_matched choice m x h = absurd (both_ways false refl h)
 
   -- a slot that the selection does not match, and after which nothing is being stored, leaves what was held unchanged
   pub after_stopped : (choice : Bool) (m : Memory) (pkt : Packet) → heads_matched sel pkt ≡ false →
@@ -106,10 +98,7 @@ module _ (class : Class) (lines : ℕ) (sel : Selection) where
       (λ c k. absurd (both_ways m.storing k
       ((and_parts (mag == selected_mag sel) m.storing
       (and_parts ((mag == selected_mag sel) && m.storing) (not (misses lines choice m)) c).0).1))) (λ _ _. same_self m) st
-  after_stopped choice m Empty other st = same_self m
-  after_stopped choice m Unreadable other st = same_self m
-  after_stopped choice m Info other st = same_self m
-  after_stopped choice m Other other st = same_self m
+  after_stopped choice m x other st = same_self m
 
   -- a slot that is not a header of the magazine, without a choice taken, does not change whether the receiver is storing
   pub after_quiet : (m : Memory) (pkt : Packet) → heads (selected_mag sel) pkt ≡ false → heads_matched sel pkt ≡ false →
@@ -129,7 +118,4 @@ module _ (class : Class) (lines : ℕ) (sel : Selection) where
   after_quiet m (Links mag (Some content)) other none =
       cond_both ((mag == selected_mag sel) && m.storing && not (misses lines false m)) (with_links m (Some content)) m
       (λ (new : Memory). new.storing ≡ m.storing) (λ _. refl) (λ _. refl)
-  after_quiet m Empty other none = refl
-  after_quiet m Unreadable other none = refl
-  after_quiet m Info other none = refl
-  after_quiet m Other other none = refl
+  after_quiet m x other none = refl

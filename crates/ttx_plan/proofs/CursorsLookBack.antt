@@ -1,13 +1,12 @@
 -- The cursors agree with the rule that looks back at the slots sent.
 use Rattle.std.proofs.Common.{◌≡◌, ℕ, suc, ◌+◌, ◌-◌, ◌<◌, ◌≤◌, Bool, true, false, not, ◌&&◌, cond, List, [], ◌∷◌, length, take, Option, Some, None}
-use Rattle.std.proofs.Common.{refl, sym, ap, ◌∙◌, subst, arith, inl, inr, ltb, eqb, get_or, set, get_or-set_other}
+use Rattle.std.proofs.Common.{refl, sym, ap, ◌∙◌, subst, arith, ltb, eqb, get_or, set}
 use Rattle.std.specs.Prelude.{slice_get, Vec}
 use Rattle.std.specs.List.{list_any, find}
 use Rattle.std.specs.declared.alloc.Global.{Global}
 use Rattle.std.proofs.Math.ListN.{length-set}
-use Rattle.std.proofs.lemmas.Bool.{cond-true, cond-false, cases_eq, eq-eqb, ne_eqb}
+use Rattle.std.proofs.lemmas.Bool.{cond-false, both_ways, and_right}
 use Rattle.std.proofs.lemmas.Bool.Decides.{nat_tests}
-use Rattle.std.proofs.lemmas.Grind.{get_or-set_at}
 use Rattle.ttx_plan.specs.declared.packet.Packet.{Packet}
 use Rattle.ttx_plan.specs.declared.packet.Slot.{Slot}
 use Rattle.ttx_plan.specs.declared.packet.Slot.TheVariants.{Empty, Info, Sent}
@@ -17,6 +16,7 @@ use Rattle.ttx_plan.specs.Turns.{Magazines, sent_by, turn_from, order, next_of, 
 use Rattle.ttx_plan.specs.Turns.{slot_after}
 use Rattle.ttx_plan.specs.Cursors.{queue_at, offered, is_free, picked, slot_by_cursors, cursors_after, magazines_of}
 use Rattle.ttx_plan.proofs.WaitingMagazines.{until, recent_until}
+use Rattle.ttx_plan.proofs.ListElements.{set_cond, raised}
 use Rattle.ttx_plan.proofs.FirstInOrder.{order_same, found_ready}
 
 pub record Tracks (lines : ℕ) (cursors : Cursors) (before : List Slot) : Type 0 where
@@ -79,9 +79,9 @@ tracks_none lines cursors s f sent free from = record {
 
 -- what a slot by the rule of turns can be
 abbrev pub IsFrom : Magazines → List Slot → Slot → Type 0
-IsFrom mags before Empty = Unit {0}
-IsFrom mags before (Info bytes) = Unit {0}
-IsFrom mags before (Sent queue packet) = (queue < 8) × (next_of mags queue before ≡ Some packet)
+IsFrom mags before Empty = find (is_ready mags before) (order (turn_from before)) ≡ None
+IsFrom mags before (Info bytes) = (mags.info ≡ Some bytes) × (is_info_due mags.lines (length before) ≡ true)
+IsFrom mags before (Sent queue packet) = (queue < 8) × (next_of mags queue before ≡ Some packet) × (is_ready mags before queue ≡ true)
 
 idle : (lines : ℕ) (cursors : Cursors) (before : List Slot) (slot : Slot) → Tracks lines cursors before →
     ((m : ℕ) → sent_by m (slot ∷ before) ≡ sent_by m before) → ((m : ℕ) → has_header m slot ≡ false) → turn_from (slot ∷ before)
@@ -99,38 +99,14 @@ idle lines cursors before slot t s o f = record {
   from_most = subst (λ x. x ≤ 8) (sym f) t.from_most;
 }
 
-one_more : (xs : List ℕ) (queue m s : ℕ) → queue < length xs → get_or xs m 0 ≡ s → get_or (set xs queue (get_or xs queue 0 + 1)) m 0
-    ≡ cond (eqb queue m) (suc s) s
-one_more xs queue m s lt was = elim (cases_eq m queue) as (λ _. get_or (set xs queue (get_or xs queue 0 + 1)) m 0 ≡ cond (eqb queue m) (suc s) s) [
-  | inl e ↦
-      let there : get_or xs m 0 ≡ get_or xs queue 0 = ap (λ x. get_or xs x 0) e in
-      let up : get_or xs queue 0 + 1 ≡ suc s = omega arith in
-      get_or-set_at xs queue m (get_or xs queue 0 + 1) 0 e lt ∙ up ∙ sym (cond-true (eqb queue m) (suc s) s (eq-eqb queue m (sym e)))
-  | inr ne ↦ get_or-set_other xs queue m (get_or xs queue 0 + 1) 0 ne ∙ was
-      ∙ sym (cond-false (eqb queue m) (suc s) s (ne_eqb queue m (λ e. ne (sym e))))
-]
-
 freed : (xs : List ℕ) (b : Bool) (queue m at lines u : ℕ) → queue < length xs → get_or xs m 0 - at ≡ u →
     get_or (cond b (set xs queue (at + lines + 1)) xs) m 0 - suc at ≡ cond (eqb queue m && b) lines (u - 1)
-freed xs false queue m at lines u lt was =
-    let off : (eqb queue m && false) ≡ false = and_false (eqb queue m) in
-    let less : get_or xs m 0 - suc at ≡ u - 1 = omega arith in
-    less ∙ sym (cond-false (eqb queue m && false) lines (u - 1) off)
+freed xs false queue m at lines u lt was = rw (and_right (eqb queue m) false refl) (omega (arith, was))
+freed xs true queue m at lines u lt was = ap (λ n. n - suc at) (set_cond xs queue m (at + lines + 1) lt) ∙ by (eqb queue m)
   where
-    and_false : (c : Bool) → (c && false) ≡ false
-    and_false true = refl
-    and_false false = refl
-freed xs true queue m at lines u lt was = elim (cases_eq m queue) as
-    (λ _. get_or (set xs queue (at + lines + 1)) m 0 - suc at ≡ cond (eqb queue m && true) lines (u - 1)) [
-      | inl e ↦
-          let now : get_or (set xs queue (at + lines + 1)) m 0 ≡ at + lines + 1 = get_or-set_at xs queue m (at + lines + 1) 0 e lt in
-          let up : get_or (set xs queue (at + lines + 1)) m 0 - suc at ≡ lines = omega arith in
-          up ∙ sym (cond-true (eqb queue m && true) lines (u - 1) (ap (λ c. c && true) (eq-eqb queue m (sym e))))
-      | inr ne ↦
-          let now : get_or (set xs queue (at + lines + 1)) m 0 ≡ get_or xs m 0 = get_or-set_other xs queue m (at + lines + 1) 0 ne in
-          let less : get_or (set xs queue (at + lines + 1)) m 0 - suc at ≡ u - 1 = omega arith in
-          less ∙ sym (cond-false (eqb queue m && true) lines (u - 1) (ap (λ c. c && true) (ne_eqb queue m (λ e. ne (sym e)))))
-    ]
+    by : (c : Bool) → cond c (at + lines + 1) (get_or xs m 0) - suc at ≡ cond (c && true) lines (u - 1)
+    by true = omega arith
+    by false = omega (arith, was)
 
 cond_size : (b : Bool) (xs : List ℕ) (i y : ℕ) → length xs ≡ 8 → length (cond b (set xs i y) xs) ≡ 8
 cond_size true xs i y e = length-set xs i y ∙ e
@@ -146,7 +122,7 @@ tracks_more lines mags cursors before (Sent queue packet) t h =
     record {
       sent_size = length-set cursors.sent queue (get_or cursors.sent queue 0 + 1) ∙ t.sent_size;
       free_size = cond_size (is_page_header packet.kind) cursors.free_at queue (length before + lines + 1) t.free_size;
-      sent = λ m small. one_more cursors.sent queue m (sent_by m before) (omega (arith, t.sent_size)) (t.sent m small);
+      sent = λ m small. raised cursors.sent queue m (sent_by m before) (omega (arith, t.sent_size)) (t.sent m small);
       free = λ m small. freed cursors.free_at (is_page_header packet.kind) queue m (length before) lines
           (until (has_header m) lines before) (omega (arith, t.free_size)) (t.free m small);
       from = omega arith;
@@ -155,17 +131,18 @@ tracks_more lines mags cursors before (Sent queue packet) t h =
 
 -- what the rule of turns gives
 pub turn_from_queues : (mags : Magazines) (before : List Slot) → IsFrom mags before (slot_after mags before)
-turn_from_queues mags before = by_info mags.info (is_info_due mags.lines (length before))
+turn_from_queues mags before = by_info mags.info (is_info_due mags.lines (length before)) refl refl
   where
-    by_next : (m : ℕ) (o : Option Packet) → m < 8 → next_of mags m before ≡ o → IsFrom mags before (sending m o)
-    by_next m None lt e = tt
-    by_next m (Some packet) lt e = (lt, e)
+    by_next : (m : ℕ) (o : Option Packet) → m < 8 → next_of mags m before ≡ o → is_ready mags before m ≡ true → IsFrom mags before (sending m o)
+    by_next m None lt e ready = absurd (both_ways false refl (ap (may_go mags m before) (sym e) ∙ ready))
+    by_next m (Some packet) lt e ready = (lt, e, ready)
 
     by_found : (o : Option ℕ) → find (is_ready mags before) (order (turn_from before)) ≡ o → IsFrom mags before (chosen mags before o)
-    by_found None e = tt
-    by_found (Some m) e = by_next m (next_of mags m before) ((found_ready (is_ready mags before) (turn_from before) m e).1) refl
+    by_found None e = e
+    by_found (Some m) e = let r = found_ready (is_ready mags before) (turn_from before) m e in by_next m (next_of mags m before) r.1 refl r.0
 
-    by_info : (info : Option (List ℕ)) (due : Bool) → IsFrom mags before (or_info info due (next_slot mags before))
-    by_info None due = by_found (find (is_ready mags before) (order (turn_from before))) refl
-    by_info (Some bytes) true = tt
-    by_info (Some bytes) false = by_found (find (is_ready mags before) (order (turn_from before))) refl
+    by_info : (info : Option (List ℕ)) (due : Bool) → mags.info ≡ info → is_info_due mags.lines (length before) ≡ due →
+        IsFrom mags before (or_info info due (next_slot mags before))
+    by_info None due e f = by_found (find (is_ready mags before) (order (turn_from before))) refl
+    by_info (Some bytes) true e f = (e, f)
+    by_info (Some bytes) false e f = by_found (find (is_ready mags before) (order (turn_from before))) refl

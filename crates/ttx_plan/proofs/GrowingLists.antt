@@ -1,8 +1,8 @@
 -- Lists that grow by what one more element sends.
-use Rattle.std.proofs.Common.{◌≡◌, ℕ, ◌+◌, ◌<◌, ◌≤◌, List, [], ◌∷◌, ◌++◌, false, cond, eqb, map, length, take, get_or, replicate, sym, ap, ◌∙◌, subst}
+use Rattle.std.proofs.Common.{◌≡◌, ℕ, ◌+◌, ◌<◌, ◌≤◌, List, [], ◌∷◌, ◌++◌, false, cond, eqb, map, length, take, get_or, replicate, sym, ap, subst}
 use Rattle.std.proofs.Common.{append_assoc, append-nil, take_all}
 use Rattle.std.specs.Prelude.{flat_map}
-use Rattle.std.proofs.lemmas.Bool.{cond-true, cond-false, eq-eqb, ne_eqb}
+use Rattle.std.proofs.lemmas.Bool.{eq-eqb, ne_eqb}
 use Rattle.std.proofs.lemmas.Grind.{flat_map-append}
 use Rattle.std.proofs.lemmas.List.{map-append, take_more, replicate_more}
 use Rattle.ttx_plan.specs.declared.rounds.SentBlock.{SentBlock}
@@ -14,22 +14,17 @@ use Rattle.ttx_plan.specs.Seen.{seen_sent}
 
 pub same_more : {B : Type 0} (list : List B) (first again : B) (n : ℕ) → (list ++ first ∷ replicate n again) ++ again ∷ [] ≡ list
     ++ first ∷ replicate (n + 1) again
-same_more list first again n = append_assoc list (first ∷ replicate n again) (again ∷ []) ∙ ap (λ x. list ++ first ∷ x) (replicate_more n again)
+same_more list first again n = simp (append_assoc, replicate_more)
 
 pub others_begin : {B : Type 0} (list : List B) (first again : B) (n m : ℕ) → n ≡ m → list ++ first ∷ replicate n again ≡ list ++ first
     ∷ (replicate m again ++ [])
-others_begin list first again n m e = ap (λ k. list ++ first ∷ replicate k again) e
-    ∙ ap (λ x. list ++ first ∷ x) (sym (append-nil (replicate m again)))
+others_begin list first again n m e = rw (e, append-nil)
 
 pub others_more : {A B : Type 0} (list : List B) (first : B) (between : List B) (sent : A → B) (xs ys : List A) (i : ℕ) (d : A) → ys
     ≡ xs → i < length ys →
     (list ++ first ∷ (between ++ map sent (take i xs))) ++ sent (get_or ys i d) ∷ [] ≡ list ++ first ∷ (between ++ map sent (take (i + 1) xs))
 others_more list first between sent xs ys i d same here =
-    ap (λ zs. (list ++ first ∷ (between ++ map sent (take i xs))) ++ sent (get_or zs i d) ∷ []) same
-    ∙ append_assoc list (first ∷ (between ++ map sent (take i xs))) (sent (get_or xs i d) ∷ [])
-    ∙ ap (λ z. list ++ first ∷ z) (append_assoc between (map sent (take i xs)) (sent (get_or xs i d) ∷ []))
-    ∙ ap (λ z. list ++ first ∷ (between ++ z)) (sym (map-append sent (take i xs) (get_or xs i d ∷ [])))
-    ∙ ap (λ z. list ++ first ∷ (between ++ map sent z)) (sym (take_more xs i d (subst (λ zs. i < length zs) same here)))
+    rw (same, take_more xs i d (subst (λ zs. i < length zs) same here), map-append) (simp append_assoc)
 
 pub others_end : {A B : Type 0} (list : List B) (first : B) (between : List B) (sent : A → B) (xs ys : List A) (i : ℕ) → ys ≡ xs → length ys ≤ i →
     list ++ first ∷ (between ++ map sent (take i xs)) ≡ list ++ first ∷ (between ++ map sent xs)
@@ -45,26 +40,15 @@ more : (queue : ℕ) (sent : List SentBlock) (i : ℕ) (b : SentBlock) → i < l
     flat_map (of_queue queue) (map seen_sent (take i sent)) ++ of_queue queue (seen_sent b)
     ≡ flat_map (of_queue queue) (map seen_sent (take (i + 1) sent))
 more queue sent i b here is =
-    ap (λ x. flat_map (of_queue queue) (map seen_sent (take i sent)) ++ x) (sym (append-nil (of_queue queue (seen_sent b))))
-    ∙ sym (flat_map-append (of_queue queue) (map seen_sent (take i sent)) (seen_sent b ∷ []))
-    ∙ ap (flat_map (of_queue queue)) (sym (map-append seen_sent (take i sent) (b ∷ [])))
-    ∙ ap (λ x. flat_map (of_queue queue) (map seen_sent (take i sent ++ x ∷ []))) is
-    ∙ ap (λ x. flat_map (of_queue queue) (map seen_sent x)) (sym (take_more sent i b here))
+    rw (take_more sent i b here, ← is, map-append) (rw (flat_map-append, append-nil))
 
 pub own_more : (queue : ℕ) (sent : List SentBlock) (i : ℕ) (b : SentBlock) → i < length sent → b ≡ get_or sent i b → b.block.now.queue ≡ queue →
     flat_map (of_queue queue) (map seen_sent (take i sent)) ++ packets_of false (seen_sent b)
     ≡ flat_map (of_queue queue) (map seen_sent (take (i + 1) sent))
-own_more queue sent i b here is own =
-    ap (λ x. flat_map (of_queue queue) (map seen_sent (take i sent)) ++ x)
-    (sym (cond-true (eqb b.block.now.queue queue) (packets_of false (seen_sent b)) [] (eq-eqb b.block.now.queue queue own)))
-    ∙ more queue sent i b here is
+own_more queue sent i b here is own = rw (← more queue sent i b here is, eq-eqb b.block.now.queue queue own)
 
 pub other_more : (queue : ℕ) (sent : List SentBlock) (i : ℕ) (b : SentBlock) → i < length sent → b ≡ get_or sent i b →
     (b.block.now.queue ≡ queue → ⊥) →
     flat_map (of_queue queue) (map seen_sent (take i sent)) ≡ flat_map (of_queue queue) (map seen_sent (take (i + 1) sent))
 other_more queue sent i b here is other =
-    sym (append-nil (flat_map (of_queue queue) (map seen_sent (take i sent))))
-    ∙ ap (λ x. flat_map (of_queue queue) (map seen_sent (take i sent)) ++ x)
-    (sym (cond-false (eqb b.block.now.queue queue) (packets_of false (seen_sent b)) []
-    (ne_eqb b.block.now.queue queue other)))
-    ∙ more queue sent i b here is
+    rw (← more queue sent i b here is, ne_eqb b.block.now.queue queue other) (sym (append-nil _))

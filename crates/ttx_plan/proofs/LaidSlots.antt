@@ -1,9 +1,8 @@
 -- Slots laid one after another.
 use Rattle.std.proofs.Common.{◌≡◌, ℕ, ◌+◌, ◌*◌, ◌≤◌, Bool, true, false, cond, Result, Ok, Err, List, [], ◌∷◌, ◌++◌, map, length, Option, Some, None}
-use Rattle.std.proofs.Common.{refl, sym, ap, ◌∙◌, subst, arith, append_assoc, length-append}
+use Rattle.std.proofs.Common.{sym, ap, ◌∙◌, subst, arith, append_assoc, length-append}
 use Rattle.std.proofs.lemmas.List.{map-append, length-map}
 use Rattle.std.specs.Prelude.{IfOk}
-use Rattle.std.proofs.lemmas.Bool.{cond-true, cond-false}
 use Rattle.ttx_plan.specs.declared.packet.Slot.{Slot}
 use Rattle.ttx_plan.specs.declared.packet.Slot.TheVariants.{Sent}
 use Rattle.ttx_plan.specs.Blocks.{time_filling_packet}
@@ -24,9 +23,6 @@ with_info_append lines info at (x ∷ xs) ys =
     ap (λ z. first ++ x ∷ z) (h ∙ ap (λ m. with_info lines info next xs ++ with_info lines info m ys) n)
     ∙ sym (append_assoc first (x ∷ with_info lines info next xs) (with_info lines info (at + length (first ++ x ∷ with_info lines info next xs)) ys))
 
-pub laid_none : (lines : ℕ) (info : Option (List ℕ)) → IsLaid lines info [] []
-laid_none lines info = record { slots_are = refl }
-
 pub laid_more : (lines : ℕ) (info : Option (List ℕ)) (list : List Slot) (slot : Slot) (old new : List (List ℕ)) → IsLaid lines info list old →
     new ≡ old ++ (map bytes_of (info_if info (is_info_due lines (length old))) ++ bytes_of slot ∷ []) → IsLaid lines info (list ++ slot ∷ []) new
 laid_more lines info list slot old new l e = record {
@@ -45,13 +41,15 @@ pub laid_same : (lines : ℕ) (info : Option (List ℕ)) (a b : List Slot) (slot
     IsLaid lines info b slots
 laid_same lines info a b slots e l = subst (λ x. IsLaid lines info x slots) e l
 
-with_info_length : (lines : ℕ) (info : Option (List ℕ)) (at : ℕ) (list : List Slot) → length (with_info lines info at list) ≤ 2 * length list
-with_info_length lines info at [] = omega arith
+with_info_length : (lines : ℕ) (info : Option (List ℕ)) (at : ℕ) (list : List Slot) →
+    (length list ≤ length (with_info lines info at list)) × (length (with_info lines info at list) ≤ 2 * length list)
+with_info_length lines info at [] = (omega arith, omega arith)
 with_info_length lines info at (slot ∷ rest) =
     let first = info_if info (is_info_due lines at) in
-    let h : length (with_info lines info (at + length first + 1) rest) ≤ 2 * length rest = with_info_length lines info (at + length first + 1) rest in
+    let h = with_info_length lines info (at + length first + 1) rest in
     let k : length first ≤ 1 = one info (is_info_due lines at) in
-    omega (arith, length-append first (slot ∷ with_info lines info (at + length first + 1) rest))
+    let size = length-append first (slot ∷ with_info lines info (at + length first + 1) rest) in
+    (omega (arith, h.0, size), omega (arith, h.1, size))
   where
     one : (o : Option (List ℕ)) (due : Bool) → length (info_if o due) ≤ 1
     one None due = omega arith
@@ -59,21 +57,11 @@ with_info_length lines info at (slot ∷ rest) =
     one (Some bytes) false = omega arith
 
 pub laid_length : (lines : ℕ) (info : Option (List ℕ)) (list : List Slot) (slots : List (List ℕ)) → IsLaid lines info list slots →
-    length slots ≤ 2 * length list
-laid_length lines info list slots l = omega
-    (arith, ap length l.slots_are, length-map (with_info lines info 0 list) bytes_of, with_info_length lines info 0 list)
-
-with_info_least : (lines : ℕ) (info : Option (List ℕ)) (at : ℕ) (list : List Slot) → length list ≤ length (with_info lines info at list)
-with_info_least lines info at [] = omega arith
-with_info_least lines info at (slot ∷ rest) =
-    let first = info_if info (is_info_due lines at) in
-    let h : length rest ≤ length (with_info lines info (at + length first + 1) rest) = with_info_least lines info (at + length first + 1) rest in
-    omega (arith, length-append first (slot ∷ with_info lines info (at + length first + 1) rest))
-
-pub laid_least : (lines : ℕ) (info : Option (List ℕ)) (list : List Slot) (slots : List (List ℕ)) → IsLaid lines info list slots →
-    length list ≤ length slots
-laid_least lines info list slots l = omega
-    (arith, ap length l.slots_are, length-map (with_info lines info 0 list) bytes_of, with_info_least lines info 0 list)
+    (length list ≤ length slots) × (length slots ≤ 2 * length list)
+laid_length lines info list slots l =
+    let size = ap length l.slots_are ∙ length-map (with_info lines info 0 list) bytes_of in
+    let h = with_info_length lines info 0 list in
+    (omega (arith, size, h.0), omega (arith, size, h.1))
 
 -- a block's page, with or without a time-filling header before it
 
@@ -84,11 +72,8 @@ if_ok (Err e) f p = tt
 pub led_list : (list : List Slot) (queue : ℕ) (filler : Bool) (page : List Slot) → filler ≡ true →
     (list ++ Sent queue (time_filling_packet true queue) ∷ []) ++ page ≡ list
     ++ (map (Sent queue) (cond filler (time_filling_packet true queue ∷ []) []) ++ page)
-led_list list queue filler page e =
-    append_assoc list (Sent queue (time_filling_packet true queue) ∷ []) page
-    ∙ ap (λ ps. list ++ (map (Sent queue) ps ++ page)) (sym (cond-true filler (time_filling_packet true queue ∷ []) [] e))
+led_list list queue filler page e = rw e (append_assoc list (Sent queue (time_filling_packet true queue) ∷ []) page)
 
 pub unled_list : (list : List Slot) (queue : ℕ) (filler : Bool) (page : List Slot) → filler ≡ false → list ++ page ≡ list
     ++ (map (Sent queue) (cond filler (time_filling_packet true queue ∷ []) []) ++ page)
-unled_list list queue filler page e = ap (λ ps. list ++ (map (Sent queue) ps ++ page))
-    (sym (cond-false filler (time_filling_packet true queue ∷ []) [] e))
+unled_list list queue filler page e = rw e

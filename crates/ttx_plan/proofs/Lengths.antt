@@ -1,10 +1,10 @@
 -- The packets of the queues add up to the count in the length bound, and the slots of a serial cycle are within it.
 use Rattle.std.proofs.Common.{◌≡◌, ℕ, zero, suc, ◌+◌, ◌*◌, ◌<◌, ◌≤◌, Bool, true, false, cond, List, [], ◌∷◌, ◌++◌, map, length, replicate, Option}
-use Rattle.std.proofs.Common.{refl, sym, ap, ◌∙◌, subst, arith, inl, inr, eqb, length-append, get_or}
+use Rattle.std.proofs.Common.{refl, sym, ap, ◌∙◌, subst, arith, eqb, length-append, get_or}
 use Rattle.std.specs.Prelude.{flat_map, sum_by}
 use Rattle.std.proofs.lemmas.List.{map-append, length-map, length-replicate}
 use Rattle.std.proofs.lemmas.List.Sums.{sum_by-cons}
-use Rattle.std.proofs.lemmas.Bool.{cond-true, cond-false, cases_eq, eq-eqb, ne_eqb, or_left}
+use Rattle.std.proofs.lemmas.Bool.{cond-true, cond-false, eq-eqb, ne_eqb}
 use Rattle.ttx_plan.specs.declared.packet.Packet.{Packet}
 use Rattle.ttx_plan.specs.declared.packet.Slot.{Slot}
 use Rattle.ttx_plan.specs.declared.packet.Slot.TheVariants.{Empty, Sent}
@@ -12,12 +12,12 @@ use Rattle.ttx_plan.specs.declared.rounds.SentBlock.{SentBlock}
 use Rattle.ttx_plan.specs.Blocks.{Block, rest_packet, filler_of, page_packets, packets_of, has_pages, used_to, used_queues, time_filling_packet}
 use Rattle.ttx_plan.specs.Blocks.{queue_packets, queues_to, packets_in}
 use Rattle.ttx_plan.specs.Counting.{sum_to, slots_for}
-use Rattle.ttx_plan.specs.Packets.{bytes_of}
+use Rattle.ttx_plan.specs.Packets.{bytes_of, is_page_header}
 use Rattle.ttx_plan.specs.Seen.{seen_sent}
 use Rattle.ttx_plan.specs.Serial.{serial_page, serial_block, serial_list, with_info, IsLaid, to_whole_field}
 use Rattle.ttx_plan.specs.Turns.{missing}
 use Rattle.ttx_plan.proofs.MagazineSums.{sum_same, sum_less}
-use Rattle.ttx_plan.proofs.LaidSlots.{laid_length, laid_least}
+use Rattle.ttx_plan.proofs.LaidSlots.{laid_length}
 
 -- each block belongs to one of the eight queues
 
@@ -33,8 +33,7 @@ queued_sent (b ∷ sent) = (b.block.now.queue_to, queued_sent sent)
 
 slots_for-append : (lines : ℕ) (xs ys : List Packet) → slots_for lines (xs ++ ys) ≡ slots_for lines xs + slots_for lines ys
 slots_for-append lines [] ys = omega arith
-slots_for-append lines (x ∷ xs) ys = let h : slots_for lines (xs ++ ys) ≡ slots_for lines xs + slots_for lines ys =
-    slots_for-append lines xs ys in omega arith
+slots_for-append lines (x ∷ xs) ys = omega (arith, slots_for-append lines xs ys)
 
 slots_for-rest : (lines : ℕ) (xs : List (List ℕ)) → slots_for lines (map rest_packet xs) ≡ length xs
 slots_for-rest lines [] = refl
@@ -43,20 +42,6 @@ slots_for-rest lines (x ∷ xs) = let h : slots_for lines (map rest_packet xs) �
 sum_add : (f g : ℕ → ℕ) (n : ℕ) → sum_to n (λ m. f m + g m) ≡ sum_to n f + sum_to n g
 sum_add f g zero = refl
 sum_add f g (suc n) = let h : sum_to n (λ m. f m + g m) ≡ sum_to n f + sum_to n g = sum_add f g n in omega arith
-
-sum_zero : (n : ℕ) → sum_to n (λ m. 0) ≡ 0
-sum_zero zero = refl
-sum_zero (suc n) = let h : sum_to n (λ m. 0) ≡ 0 = sum_zero n in omega arith
-
-sum_at : (f : ℕ → ℕ) (n m : ℕ) → m < n → f m ≤ sum_to n f
-sum_at f zero m lt = absurd (omega arith)
-sum_at f (suc n) m lt = elim (cases_eq m n) as (λ _. f m ≤ sum_to n f + f n) [
-  | inl e ↦ let h : f m ≡ f n = ap f e in omega arith
-  | inr ne ↦ let k : m < n = strict ne in let h : f m ≤ sum_to n f = sum_at f n m k in omega arith
-]
-  where
-    strict : (m ≡ n → ⊥) → m < n
-    strict ne = grind arith
 
 -- a block's packets in this queue
 abbrev pub in_queue : ℕ → Block → List Packet
@@ -78,7 +63,7 @@ own_slots lines block =
 
 blocks_slots : (lines : ℕ) (blocks : List Block) → AreQueued blocks → sum_to 8 (λ m. slots_for lines (flat_map (in_queue m) blocks))
     ≡ sum_by size_of blocks + length blocks * lines
-blocks_slots lines [] a = sum_zero 8 ∙ omega arith
+blocks_slots lines [] a = omega arith
 blocks_slots lines (block ∷ blocks) a =
     let h : sum_to 8 (λ m. slots_for lines (flat_map (in_queue m) blocks)) ≡ sum_by size_of blocks + length blocks * lines =
     blocks_slots lines blocks a.1 in
@@ -100,11 +85,12 @@ fillings_slots : (lines : ℕ) (blocks : List Block) (n : ℕ) →
     sum_to n (λ m. slots_for lines (cond (has_pages blocks m) (time_filling_packet false m ∷ []) [])) ≡ length (used_to blocks n)
 fillings_slots lines blocks zero = refl
 fillings_slots lines blocks (suc n) =
-    let h : sum_to n (λ m. slots_for lines (cond (has_pages blocks m) (time_filling_packet false m ∷ []) []))
-    ≡ length (used_to blocks n) = fillings_slots lines blocks n in
-    let k : slots_for lines (cond (has_pages blocks n) (time_filling_packet false n ∷ []) [])
-    ≡ length (cond (has_pages blocks n) (n ∷ []) []) = one (has_pages blocks n) in
-    omega (arith, length-append (used_to blocks n) (cond (has_pages blocks n) (n ∷ []) []))
+    omega (
+      arith,
+      fillings_slots lines blocks n,
+      one (has_pages blocks n),
+      length-append (used_to blocks n) (cond (has_pages blocks n) (n ∷ []) []),
+    )
   where
     one : (b : Bool) → slots_for lines (cond b (time_filling_packet false n ∷ []) []) ≡ length (cond b (n ∷ []) [])
     one true = refl
@@ -122,19 +108,26 @@ queues_slots lines blocks a =
     ∙ ap (λ n. n + sum_to 8 (λ m. slots_for lines (cond (has_pages blocks m) (time_filling_packet false m ∷ []) []))) (blocks_slots lines blocks a)
     ∙ ap (λ n. sum_by size_of blocks + length blocks * lines + n) (fillings_slots lines blocks 8)
 
+-- where nothing waits, each packet takes one slot
+slots_for_none : (xs : List Packet) → slots_for 0 xs ≡ length xs
+slots_for_none [] = refl
+slots_for_none (x ∷ xs) = let h : slots_for 0 xs ≡ length xs = slots_for_none xs in by (is_page_header x.kind) h
+  where
+    by : (b : Bool) → slots_for 0 xs ≡ length xs → cond b 1 1 + slots_for 0 xs ≡ suc (length xs)
+    by true h = omega arith
+    by false h = omega arith
+
 pub queues_some : (blocks : List Block) → AreQueued blocks → 0 < length blocks → 0 < sum_to 8 (λ m. length (queue_packets false blocks m))
 queues_some [] a h = absurd (omega arith)
 queues_some (block ∷ blocks) a h =
-    let own : has_pages (block ∷ blocks) block.queue ≡ true =
-    or_left (eqb block.queue block.queue) (has_pages blocks block.queue) (eq-eqb block.queue block.queue refl) in
-    let one : length (cond (has_pages (block ∷ blocks) block.queue) (time_filling_packet false block.queue ∷ []) []) ≡ 1 =
-    ap length (cond-true (has_pages (block ∷ blocks) block.queue) (time_filling_packet false block.queue ∷ []) [] own) in
-    let most : length (queue_packets false (block ∷ blocks) block.queue)
-    ≤ sum_to 8 (λ m. length (queue_packets false (block ∷ blocks) m)) =
-    sum_at (λ m. length (queue_packets false (block ∷ blocks) m)) 8 block.queue a.0 in
-    let size = length-append (flat_map (in_queue block.queue) (block ∷ blocks))
-    (cond (has_pages (block ∷ blocks) block.queue) (time_filling_packet false block.queue ∷ []) []) in
-    omega (arith, one, most, size)
+    let sent = block ∷ blocks in
+    omega (
+      arith,
+      sum_same (λ m. slots_for 0 (queue_packets false sent m)) (λ m. length (queue_packets false sent m)) 8
+          (λ m lt. slots_for_none (queue_packets false sent m)),
+      queues_slots 0 sent a,
+      sum_by-cons size_of block blocks,
+    )
 
 -- the same with queues as lists
 pub over_queues : (f : List Packet → ℕ) (blocks : List Block) (lists : List (List Packet)) → lists ≡ queues_to blocks 8 →
@@ -147,16 +140,16 @@ empties : (n : ℕ) → map bytes_of (replicate n Empty) ≡ replicate n (replic
 empties zero = refl
 empties (suc n) = ap (λ x. replicate 42 0 ∷ x) (empties n)
 
+-- slots and the empty ones that fill up the last field
+pub padded_length : (slots : List (List ℕ)) (n : ℕ) → length (slots ++ replicate n (replicate 42 0)) ≡ length slots + n
+padded_length slots n = length-append slots (replicate n (replicate 42 0)) ∙ ap (λ m. length slots + m) (length-replicate n (replicate 42 0))
+
 -- laid slots, filled
 pub serial_filled : (lines : ℕ) (info : Option (List ℕ)) (list : List Slot) (slots new : List (List ℕ)) → IsLaid lines info list slots →
     new ≡ slots ++ replicate (missing lines (length slots)) (replicate 42 0) →
     new ≡ map bytes_of (to_whole_field lines (with_info lines info 0 list))
 serial_filled lines info list slots new l e =
-    let n : length slots ≡ length (with_info lines info 0 list) = ap length l.slots_are ∙ length-map (with_info lines info 0 list) bytes_of in
-    e ∙ ap (λ x. x ++ replicate (missing lines (length slots)) (replicate 42 0)) l.slots_are
-    ∙ ap (λ k. map bytes_of (with_info lines info 0 list) ++ replicate (missing lines k) (replicate 42 0)) n
-    ∙ ap (λ x. map bytes_of (with_info lines info 0 list) ++ x) (sym (empties (missing lines (length (with_info lines info 0 list)))))
-    ∙ sym (map-append bytes_of (with_info lines info 0 list) (replicate (missing lines (length (with_info lines info 0 list))) Empty))
+    rw (e, l.slots_are, map-append) (rw (length-map, empties (missing lines (length (with_info lines info 0 list)))))
 
 page_length : (lines : ℕ) (block : Block) → length (serial_page lines block) ≡ suc lines + length block.rest
 page_length lines block =
@@ -211,52 +204,27 @@ pub filled_most : (lines : ℕ) (info : Option (List ℕ)) (blocks : List Block)
     new ≡ slots ++ replicate (missing lines (length slots)) (replicate 42 0) →
     2 * (packets_in blocks + length blocks * lines + length (used_queues blocks)) + 2 * lines ≤ 65536 → length new ≤ 65536
 filled_most lines info blocks slots new some l e few =
-    let size : length new ≡ length slots + missing lines (length slots) = ap length e
-    ∙ length-append slots (replicate (missing lines (length slots)) (replicate 42 0))
-    ∙ ap (λ n. length slots + n) (length-replicate (missing lines (length slots)) (replicate 42 0)) in
-    let rest : missing lines (length slots) ≤ lines = omega arith in
-    let q : length (serial_list lines blocks) ≡ packets_in blocks + length blocks * lines + length (used_queues blocks) =
-    serial_length lines blocks in
-    let two : length slots ≤ 2 * length (serial_list lines blocks) = laid_length lines info (serial_list lines blocks) slots l in
-    bound (length new) (length slots) (missing lines (length slots)) (length (serial_list lines blocks)) lines size rest two
-    (subst (λ n. 2 * n + 2 * lines ≤ 65536) (sym q) few)
+    bound (length new) (length slots) (missing lines (length slots)) (length (serial_list lines blocks)) lines
+    (ap length e ∙ padded_length slots (missing lines (length slots))) (omega arith)
+    (laid_length lines info (serial_list lines blocks) slots l).1
+    (subst (λ n. 2 * n + 2 * lines ≤ 65536) (sym (serial_length lines blocks)) few)
   where
     bound : (n s m l lines : ℕ) → n ≡ s + m → m ≤ lines → s ≤ 2 * l → 2 * l + 2 * lines ≤ 65536 → n ≤ 65536
     bound n s m l lines a b c d = omega arith
 
 -- a cycle has at least one slot
 
-used_some : (blocks : List Block) (n queue : ℕ) → queue < n → has_pages blocks queue ≡ true → 0 < length (used_to blocks n)
-used_some blocks zero queue lt e = absurd (omega arith)
-used_some blocks (suc n) queue lt e = elim (cases_eq queue n) as (λ _. 0 < length (used_to blocks n ++ cond (has_pages blocks n) (n ∷ []) [])) [
-  | inl q ↦
-      let here : has_pages blocks n ≡ true = ap (has_pages blocks) (sym q) ∙ e in
-      let one : length (cond (has_pages blocks n) (n ∷ []) []) ≡ 1 = ap length (cond-true (has_pages blocks n) (n ∷ []) [] here) in
-      omega (arith, one, length-append (used_to blocks n) (cond (has_pages blocks n) (n ∷ []) []))
-  | inr q ↦
-      let h : 0 < length (used_to blocks n) = used_some blocks n queue (strict q) e in
-      omega (arith, h, length-append (used_to blocks n) (cond (has_pages blocks n) (n ∷ []) []))
-]
-  where
-    strict : (queue ≡ n → ⊥) → queue < n
-    strict ne = grind arith
+serial_some : (lines : ℕ) (blocks : List Block) → 0 < length blocks → 0 < length (serial_list lines blocks)
+serial_some lines [] h = absurd (omega arith)
+serial_some lines (block ∷ blocks) h = omega (arith, serial_length lines (block ∷ blocks), sum_by-cons size_of block blocks)
 
-serial_some : (lines : ℕ) (blocks : List Block) → AreQueued blocks → 0 < length blocks → 0 < length (serial_list lines blocks)
-serial_some lines [] a h = absurd (omega arith)
-serial_some lines (block ∷ blocks) a h =
-    let own : has_pages (block ∷ blocks) block.queue ≡ true =
-    or_left (eqb block.queue block.queue) (has_pages blocks block.queue) (eq-eqb block.queue block.queue refl) in
-    let used : 0 < length (used_queues (block ∷ blocks)) = used_some (block ∷ blocks) 8 block.queue a.0 own in
-    omega (arith, used, serial_length lines (block ∷ blocks))
-
-pub filled_some : (lines : ℕ) (info : Option (List ℕ)) (blocks : List Block) (slots new : List (List ℕ)) → AreQueued blocks →
-    0 < length blocks → IsLaid lines info (serial_list lines blocks) slots →
+pub filled_some : (lines : ℕ) (info : Option (List ℕ)) (blocks : List Block) (slots new : List (List ℕ)) → 0 < length blocks →
+    IsLaid lines info (serial_list lines blocks) slots →
     new ≡ slots ++ replicate (missing lines (length slots)) (replicate 42 0) → 0 < length new
-filled_some lines info blocks slots new a some l e =
+filled_some lines info blocks slots new some l e =
     omega (
       arith,
-      serial_some lines blocks a some,
-      laid_least lines info (serial_list lines blocks) slots l,
-      ap length e,
-      length-append slots (replicate (missing lines (length slots)) (replicate 42 0)),
+      serial_some lines blocks some,
+      (laid_length lines info (serial_list lines blocks) slots l).0,
+      ap length e ∙ padded_length slots (missing lines (length slots)),
     )

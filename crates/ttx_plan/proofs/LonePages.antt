@@ -1,15 +1,15 @@
 -- A page that is alone in its number: no other page weighs on its places, and it takes no turns.
-use Rattle.std.proofs.Common.{◌≡◌, ℕ, zero, suc, ◌+◌, ◌*◌, ◌%◌, ◌/◌, ◌^◌, ◌<◌, Bool, true, false, cond, eqb, ltb, ◌&&◌, ◌||◌, List, length}
+use Rattle.std.proofs.Common.{◌≡◌, ℕ, zero, suc, ◌+◌, ◌*◌, ◌%◌, ◌/◌, ◌<◌, Bool, true, false, cond, eqb, ◌&&◌, List, length}
 use Rattle.std.proofs.Common.{Option, Some, None, refl, sym, ap, ◌∙◌, arith, inl, inr, get_or}
 use Rattle.std.specs.Prelude.{slice_get}
 use Rattle.std.specs.List.{count_by}
-use Rattle.std.proofs.lemmas.Bool.{cond-true, cases_eq, cases_lt, eq-eqb, eqb-true, le-ltb}
+use Rattle.std.proofs.lemmas.Bool.{cond-true, cases_eq, cases_lt, eq-eqb, eqb-true, le-ltb, and_parts, and_right, or_from}
 use Rattle.std.proofs.lemmas.List.Sums.{passes_at_first}
 use Rattle.std.proofs.lemmas.Option.{slice_get_within, get_or_from_slice_get}
 use Rattle.ttx_source.specs.Services.{Authored}
 use Rattle.ttx_plan.specs.Spreading.{number_of}
 use Rattle.ttx_plan.specs.SubpageTurns.{share_number, take_turns, first_of_turns, turn, turn_of, comes_before, is_mate_or_none, is_earlier_mate}
-use Rattle.ttx_plan.specs.SubpageTurns.{count_below, mates_so_far, rounds_late, burden}
+use Rattle.ttx_plan.specs.SubpageTurns.{count_below, mates_so_far, burden}
 use Rattle.ttx_plan.proofs.SpreadBurdens.{first_not_after}
 use Rattle.ttx_plan.proofs.SubpageLists.{listed_at, count_two}
 
@@ -19,19 +19,10 @@ IsAlone pages p = ◌≡◌ {A = ℕ} (count_by (λ q. eqb (number_of q) (number
 
 same_number : (p q : Authored) → share_number p q ≡ true → eqb (number_of q) (number_of p) ≡ true
 same_number p q t =
-    let mag : p.page.id.mag ≡ q.page.id.mag = eqb-true p.page.id.mag q.page.id.mag (first (eqb p.page.id.mag q.page.id.mag)
-    (eqb p.page.id.page q.page.id.page) t) in
-    let page : p.page.id.page ≡ q.page.id.page = eqb-true p.page.id.page q.page.id.page (second (eqb p.page.id.mag q.page.id.mag)
-    (eqb p.page.id.page q.page.id.page) t) in
+    let two = and_parts (eqb p.page.id.mag q.page.id.mag) (eqb p.page.id.page q.page.id.page) t in
+    let mag = eqb-true p.page.id.mag q.page.id.mag two.0 in
+    let page = eqb-true p.page.id.page q.page.id.page two.1 in
     eq-eqb (number_of q) (number_of p) (ap (λ m. m * 256 + q.page.id.page) (sym mag) ∙ ap (λ n. p.page.id.mag * 256 + n) (sym page))
-  where
-    first : (a b : Bool) → (a && b) ≡ true → a ≡ true
-    first true b t = refl
-    first false b t = cc
-
-    second : (a b : Bool) → (a && b) ≡ true → b ≡ true
-    second true b t = t
-    second false b t = cc
 
 only_one : (pages : List Authored) (p q : Authored) (at k : ℕ) → IsAlone pages p → slice_get pages at ≡ Some p → slice_get pages k ≡ Some q →
     share_number p q ≡ true → k ≡ at
@@ -51,12 +42,7 @@ only_one pages p q at k alone e f t = elim (cases_eq k at) [
 not_itself : (p q : Authored) (at other : ℕ) → other ≡ at → q ≡ p → comes_before at p other q ≡ false
 not_itself p q at other same is =
     ap (λ k. comes_before at p k q) same ∙ ap (comes_before at p at) is
-    ∙ ap (λ b. b || (eqb p.often p.often && ltb at at)) (le-ltb p.often p.often (omega arith))
-    ∙ ap (λ b. eqb p.often p.often && b) (le-ltb at at (omega arith)) ∙ last (eqb p.often p.often)
-  where
-    last : (a : Bool) → (a && false) ≡ false
-    last true = refl
-    last false = refl
+    ∙ or_from _ _ (le-ltb p.often p.often (omega arith)) (and_right (eqb p.often p.often) _ (le-ltb at at (omega arith)))
 
 no_mate : (pages : List Authored) (places : List ℕ) (at : ℕ) (p : Authored) (round other : ℕ) → IsAlone pages p → slice_get pages at ≡ Some p →
     is_earlier_mate pages places at p round other ≡ false
@@ -90,12 +76,8 @@ no_turn pages places at p alone e =
     let here : get_or pages (first_of_turns pages p) p ≡ q.0 = get_or_from_slice_get pages (first_of_turns pages p) q.0 p q.1 in
     let takes : take_turns p q.0 ≡ true = ap (take_turns p) (sym here) ∙ passes_at_first (take_turns p) pages p within in
     let same : first_of_turns pages p ≡ at =
-    only_one pages p q.0 at (first_of_turns pages p) alone e q.1 (first (share_number p q.0) (eqb p.often q.0.often) takes) in
+    only_one pages p q.0 at (first_of_turns pages p) alone e q.1 (and_parts (share_number p q.0) (eqb p.often q.0.often) takes).0 in
     cond-true (eqb (first_of_turns pages p) at) None (Some (turn pages places p)) (eq-eqb (first_of_turns pages p) at same)
-  where
-    first : (a b : Bool) → (a && b) ≡ true → a ≡ true
-    first true b t = refl
-    first false b t = cc
 
 -- so its burden is the packets alone
 pub lone_burden : (pages : List Authored) (places : List ℕ) (at : ℕ) (p : Authored) (packets round : ℕ) → IsAlone pages p →
@@ -103,7 +85,4 @@ pub lone_burden : (pages : List Authored) (places : List ℕ) (at : ℕ) (p : Au
 lone_burden pages places at p packets round alone e =
     let mates : mates_so_far pages places at p round ≡ 0 =
     none_below (length pages) (is_earlier_mate pages places at p round) (λ k. no_mate pages places at p round k alone e) in
-    let turns = no_turn pages places at p alone e in
-    sym (ap (λ n. (n * 8 + rounds_late (turn_of pages places at p) (8 / p.often) round) * 2 ^ 32 + packets) mates
-    ∙ ap (λ t. (0 * 8 + rounds_late t (8 / p.often) round) * 2 ^ 32 + packets) turns
-    ∙ omega arith)
+    rw (mates, no_turn pages places at p alone e) (omega arith)

@@ -6,17 +6,11 @@ use Rattle.ttx_plan.specs.Counting.{sum_to}
 
 pub sum_same : (f g : ℕ → ℕ) (n : ℕ) → ((m : ℕ) → m < n → f m ≡ g m) → sum_to n f ≡ sum_to n g
 sum_same f g zero h = refl
-sum_same f g (suc n) h =
-    let a : sum_to n f ≡ sum_to n g = sum_same f g n (λ m lt. h m (omega arith)) in
-    let b : f n ≡ g n = h n (omega arith) in
-    omega arith
+sum_same f g (suc n) h = omega (arith, sum_same f g n (λ m lt. h m (omega arith)), h n (omega arith))
 
 pub sum_le : (f g : ℕ → ℕ) (n : ℕ) → ((m : ℕ) → m < n → f m ≤ g m) → sum_to n f ≤ sum_to n g
 sum_le f g zero h = omega arith
-sum_le f g (suc n) h =
-    let a : sum_to n f ≤ sum_to n g = sum_le f g n (λ m lt. h m (omega arith)) in
-    let b : f n ≤ g n = h n (omega arith) in
-    omega arith
+sum_le f g (suc n) h = omega (arith, sum_le f g n (λ m lt. h m (omega arith)), h n (omega arith))
 
 -- one of them has w less
 pub sum_less : (f g : ℕ → ℕ) (w n queue : ℕ) → queue < n → f queue ≡ w + g queue → ((m : ℕ) → m ≢ queue → f m ≡ g m) → sum_to n f ≡ w + sum_to n g
@@ -26,35 +20,22 @@ sum_less f g w (suc n) queue lt here others = elim (cases_eq n queue) as (λ _. 
       let a : sum_to n f ≡ sum_to n g = sum_same f g n (λ m h. others m (λ q. absurd (omega arith))) in
       let b : f n ≡ w + g n = ap f e ∙ here ∙ ap (λ x. w + g x) (sym e) in
       omega arith
-  | inr ne ↦
-      let small : queue < n = strict lt ne in
-      let a : sum_to n f ≡ w + sum_to n g = sum_less f g w n queue small here others in
-      let b : f n ≡ g n = others n ne in
-      omega arith
+  | inr ne ↦ omega (arith, sum_less f g w n queue (omega (arith, lt, ne)) here others, others n ne)
 ]
-  where
-    strict : queue < suc n → (n ≡ queue → ⊥) → queue < n
-    strict h ne = elim (cases_lt queue n) as (λ _. queue < n) [ inl k ↦ k | inr k ↦ absurd (ne (omega arith)) ]
 
 pub sum_some : (f : ℕ → ℕ) (n : ℕ) → 0 < sum_to n f → (m : ℕ) × (m < n) × (0 < f m)
 sum_some f zero h = absurd (omega arith)
 sum_some f (suc n) h = elim (cases_lt 0 (f n)) as (λ _. (m : ℕ) × (m < suc n) × (0 < f m)) [
   | inl k ↦ (n, omega arith, k)
-  | inr k ↦ more (sum_some f n (omega arith))
+  | inr k ↦ let r = sum_some f n (omega arith) in (r.0, omega (arith, r.1), r.2)
 ]
-  where
-    more : (m : ℕ) × (m < n) × (0 < f m) → (m : ℕ) × (m < suc n) × (0 < f m)
-    more r = (r.0, omega (arith, r.1), r.2)
 
 pub sum_none : (f : ℕ → ℕ) (n : ℕ) → sum_to n f ≡ 0 → (m : ℕ) → m < n → f m ≡ 0
 sum_none f zero h m lt = absurd (omega arith)
 sum_none f (suc n) h m lt = elim (cases_eq m n) as (λ _. f m ≡ 0) [
   | inl e ↦ let a : f n ≡ 0 = omega arith in ap f e ∙ a
-  | inr ne ↦ sum_none f n (omega arith) m (strict ne)
+  | inr ne ↦ sum_none f n (omega arith) m (omega (arith, lt, ne))
 ]
-  where
-    strict : (m ≡ n → ⊥) → m < n
-    strict ne = elim (cases_lt m n) as (λ _. m < n) [ inl k ↦ k | inr k ↦ absurd (ne (omega arith)) ]
 
 -- an element by its place, and the rest from there on
 pub drop_next : {A : Type 0} (xs : List A) (n : ℕ) (x : A) → slice_get xs n ≡ Some x → drop n xs ≡ x ∷ drop (suc n) xs
@@ -67,8 +48,3 @@ get_left [] zero h = absurd (omega arith)
 get_left [] (suc n) h = absurd (omega arith)
 get_left (y ∷ ys) zero h = (y, refl)
 get_left (y ∷ ys) (suc n) h = get_left ys n h
-
-pub get_within : {A : Type 0} (xs : List A) (n : ℕ) (x : A) → slice_get xs n ≡ Some x → n < length xs
-get_within [] n x h = let e : None ≡ Some x = h in cc
-get_within (y ∷ ys) zero x h = omega arith
-get_within (y ∷ ys) (suc n) x h = let k : n < length ys = get_within ys n x h in omega arith

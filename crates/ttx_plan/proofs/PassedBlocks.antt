@@ -1,13 +1,16 @@
 -- The blocks that are sent, one by one, with the page number in the latest header of each queue.
-use Rattle.std.proofs.Common.{◌≡◌, ℕ, zero, suc, ◌+◌, ◌/◌, ◌%◌, ◌<◌, Bool, true, false, ◌&&◌, cond, eqb, List, [], ◌∷◌, ◌++◌, map, length, take}
-use Rattle.std.proofs.Common.{get_or, set, refl, sym, ap, ◌∙◌, subst, arith, inl, inr, append_assoc, append-nil}
-use Rattle.std.specs.Prelude.{replicate}
-use Rattle.std.proofs.lemmas.Bool.{cond-true, cond-false, cases_eq, eq-eqb, ne_eqb}
-use Rattle.std.proofs.lemmas.List.{get_or-set_same, get_or-set_other, length-set, map-append, take_more}
+use Rattle.std.proofs.Common.{◌≡◌, ℕ, ◌+◌, ◌/◌, ◌%◌, ◌<◌, Bool, true, false, ◌&&◌, cond, eqb, List, [], ◌∷◌, ◌++◌, map, length, take}
+use Rattle.std.proofs.Common.{get_or, set, refl, sym, ap, ◌∙◌, arith, append_assoc, append-nil}
+use Rattle.std.proofs.Common.{Some}
+use Rattle.std.specs.Prelude.{slice_get}
+use Rattle.std.proofs.lemmas.Bool.{eq-eqb, ne_eqb}
+use Rattle.std.proofs.lemmas.List.{length-set, map-append, take_more}
 use Rattle.std.proofs.lemmas.List.Elements.{filter-append}
 use Rattle.std.proofs.lemmas.List.Sums.{sum_by-append, sum_by-cons}
 use Rattle.ttx_plan.specs.Blocks.{Block, led, round_of, rounds_to, latest, with_fillers}
 use Rattle.ttx_plan.specs.declared.block.PageBlock.{PageBlock}
+use Rattle.ttx_plan.specs.Order.{some_block, picked}
+use Rattle.ttx_plan.proofs.ListElements.{set_cond}
 use Rattle.ttx_plan.specs.Seen.{seen, fillers_in}
 
 -- the blocks that have been passed, latest first
@@ -34,41 +37,13 @@ pub record KeepsLatest (pages : List ℕ) (blocks : List Block) : Type 0 where
   pub size : length pages ≡ 8
   pub kept : (queue : ℕ) → queue < 8 → get_or pages queue 0 ≡ latest queue (passed [] blocks)
 
-pub keeps_none : (pages : List ℕ) → pages ≡ replicate 8 255 → KeepsLatest pages []
-keeps_none pages e = record { size = ap length e; kept = λ queue lt. ap (λ x. get_or x queue 0) e ∙ all queue lt }
-  where
-    same : (n queue : ℕ) → queue < n → ◌≡◌ {A = ℕ} (get_or (replicate n 255) queue 0) 255
-    same zero queue lt = absurd (omega arith)
-    same (suc n) zero lt = refl
-    same (suc n) (suc queue) lt = same n queue (omega arith)
-
-    all : (queue : ℕ) → queue < 8 → ◌≡◌ {A = ℕ} (get_or (replicate 8 255) queue 0) 255
-    all queue lt = same 8 queue lt
-
 pub keeps_next : (pages : List ℕ) (blocks : List Block) (block : Block) → block.queue < 8 → KeepsLatest pages blocks →
     KeepsLatest (set pages block.queue block.page) (blocks ++ block ∷ [])
 keeps_next pages blocks block lt k = record {
   size = length-set pages block.queue block.page ∙ k.size;
-  kept = λ queue below. ap_latest queue (one queue below);
+  kept = λ queue below. set_cond pages block.queue queue block.page (omega (arith, k.size, lt))
+      ∙ ap (cond (eqb block.queue queue) block.page) (k.kept queue below) ∙ ap (latest queue) (sym (passed_next [] blocks block));
 }
-  where
-    ap_latest : (queue : ℕ) → get_or (set pages block.queue block.page) queue 0 ≡ latest queue (block ∷ passed [] blocks) →
-        get_or (set pages block.queue block.page) queue 0 ≡ latest queue (passed [] (blocks ++ block ∷ []))
-    ap_latest queue e = e ∙ ap (latest queue) (sym (passed_next [] blocks block))
-
-    one : (queue : ℕ) → queue < 8 → get_or (set pages block.queue block.page) queue 0
-        ≡ cond (eqb block.queue queue) block.page (latest queue (passed [] blocks))
-    one queue below = elim (cases_eq block.queue queue) as
-        (λ _. get_or (set pages block.queue block.page) queue 0
-        ≡ cond (eqb block.queue queue) block.page (latest queue (passed [] blocks))) [
-          | inl e ↦
-              ap (λ q. get_or (set pages block.queue block.page) q 0) (sym e)
-              ∙ get_or-set_same pages block.queue block.page 0 (omega (arith, k.size, lt))
-              ∙ sym (cond-true (eqb block.queue queue) block.page (latest queue (passed [] blocks)) (eq-eqb block.queue queue e))
-          | inr ne ↦
-              get_or-set_other pages block.queue queue block.page 0 (λ q. ne (sym q)) ∙ k.kept queue below
-              ∙ sym (cond-false (eqb block.queue queue) block.page (latest queue (passed [] blocks)) (ne_eqb block.queue queue ne))
-        ]
 
 pub again_is : (pages : List ℕ) (blocks : List Block) (block : Block) → block.queue < 8 → KeepsLatest pages blocks →
     eqb (get_or pages block.queue 0) block.page ≡ is_again blocks block
@@ -81,41 +56,20 @@ in_round round block = eqb (round % (8 / block.often)) block.place
 
 pub sent_more : (all some : List Block) (round : ℕ) (block : Block) → in_round round block ≡ true → rounds_to all round
     ++ round_of (some ++ block ∷ []) round ≡ (rounds_to all round ++ round_of some round) ++ block ∷ []
-sent_more all some round block e =
-    ap (λ z. rounds_to all round ++ z)
-    (filter-append (in_round round) some (block ∷ [])
-    ∙ ap (λ z. round_of some round ++ z) (cond-true (in_round round block) (block ∷ []) [] e))
-    ∙ sym (append_assoc (rounds_to all round) (round_of some round) (block ∷ []))
+sent_more all some round block e = rw (filter-append, e) (sym (append_assoc (rounds_to all round) (round_of some round) (block ∷ [])))
 
 pub sent_same : (all some : List Block) (round : ℕ) (block : Block) → in_round round block ≡ false → rounds_to all round
     ++ round_of (some ++ block ∷ []) round ≡ rounds_to all round ++ round_of some round
-sent_same all some round block e =
-    ap (λ z. rounds_to all round ++ z)
-    (filter-append (in_round round) some (block ∷ [])
-    ∙ ap (λ z. round_of some round ++ z) (cond-false (in_round round block) (block ∷ []) [] e)
-    ∙ append-nil (round_of some round))
+sent_same all some round block e = rw (filter-append, e) (ap (λ z. rounds_to all round ++ z) (append-nil (round_of some round)))
 
 -- the blocks that are sent, and how many of them follow a time-filling header
 
-pub list_next : (late : Bool) (all some : List Block) (round : ℕ) (block : Block) → in_round round block ≡ true →
-    with_fillers late [] (rounds_to all round ++ round_of (some ++ block ∷ []) round)
-    ≡ with_fillers late [] (rounds_to all round ++ round_of some round)
-    ++ led (late && is_again (rounds_to all round ++ round_of some round) block) block ∷ []
-list_next late all some round block e = ap (with_fillers late []) (sent_more all some round block e)
-    ∙ fillers_next late [] (rounds_to all round ++ round_of some round) block
-
-pub count_next : (late : Bool) (all some : List Block) (round : ℕ) (block : Block) → in_round round block ≡ true →
-    fillers_in (with_fillers late [] (rounds_to all round ++ round_of (some ++ block ∷ []) round))
-    ≡ fillers_in (with_fillers late [] (rounds_to all round ++ round_of some round))
-    + cond (late && is_again (rounds_to all round ++ round_of some round) block) 1 0
-count_next late all some round block e =
-    let first = with_fillers late [] (rounds_to all round ++ round_of some round) in
-    let last = led (late && is_again (rounds_to all round ++ round_of some round) block) block in
-    ap fillers_in (list_next late all some round block e) ∙ sum_by-append (λ (x : Block). cond x.filler 1 0) first (last ∷ [])
-    ∙ ap (λ n. fillers_in (with_fillers late [] (rounds_to all round ++ round_of some round)) + n) (one last)
-  where
-    one : (x : Block) → fillers_in (x ∷ []) ≡ cond x.filler 1 0
-    one x = omega (arith, sum_by-cons (λ (y : Block). cond y.filler 1 0) x [])
+one_more : (xs : List Block) (x : Block) → fillers_in xs + cond x.filler 1 0 ≡ fillers_in (xs ++ x ∷ [])
+one_more xs x = omega (
+  arith,
+  sum_by-append (λ (y : Block). cond y.filler 1 0) xs (x ∷ []),
+  sum_by-cons (λ (y : Block). cond y.filler 1 0) x [],
+)
 
 -- the lists after one more block: `next` is `some` with the block
 pub sent_then : (late : Bool) (all some next : List Block) (round : ℕ) (block : Block) (filler : Bool) (pages : List ℕ)
@@ -124,11 +78,14 @@ pub sent_then : (late : Bool) (all some next : List Block) (round : ℕ) (block 
     sent ≡ with_fillers late [] (rounds_to all round ++ round_of some round) →
     sent ++ led filler block ∷ [] ≡ with_fillers late [] (rounds_to all round ++ round_of next round)
 sent_then late all some next round block filler pages sent more lt due k f s =
-    let e : in_round round block ≡ true = eq-eqb (round % (8 / block.often)) block.place due in
-    ap (λ x. x ++ led filler block ∷ []) s
-    ∙ ap (λ b. with_fillers late [] (rounds_to all round ++ round_of some round) ++ led b block ∷ [])
-    (f ∙ ap (λ b. late && b) (again_is pages (rounds_to all round ++ round_of some round) block lt k))
-    ∙ sym (list_next late all some round block e) ∙ ap (λ x. with_fillers late [] (rounds_to all round ++ round_of x round)) (sym more)
+    rw (
+      more,
+      sent_more all some round block (eq-eqb (round % (8 / block.often)) block.place due),
+      fillers_next late [] (rounds_to all round ++ round_of some round) block,
+      s,
+      f,
+      again_is pages (rounds_to all round ++ round_of some round) block lt k,
+    )
 
 pub count_then : (late : Bool) (all some next : List Block) (round : ℕ) (block : Block) (filler : Bool) (pages : List ℕ) (count : ℕ) →
     next ≡ some ++ block ∷ [] → block.queue < 8 → round % (8 / block.often) ≡ block.place →
@@ -136,32 +93,39 @@ pub count_then : (late : Bool) (all some next : List Block) (round : ℕ) (block
     count ≡ fillers_in (with_fillers late [] (rounds_to all round ++ round_of some round)) →
     count + cond filler 1 0 ≡ fillers_in (with_fillers late [] (rounds_to all round ++ round_of next round))
 count_then late all some next round block filler pages count more lt due k f s =
-    let e : in_round round block ≡ true = eq-eqb (round % (8 / block.often)) block.place due in
-    ap (λ x. x + cond filler 1 0) s
-    ∙ ap (λ b. fillers_in (with_fillers late [] (rounds_to all round ++ round_of some round)) + cond b 1 0)
-    (f ∙ ap (λ b. late && b) (again_is pages (rounds_to all round ++ round_of some round) block lt k))
-    ∙ sym (count_next late all some round block e) ∙ ap (λ x. fillers_in (with_fillers late [] (rounds_to all round ++ round_of x round))) (sym more)
+    let sent = with_fillers late [] (rounds_to all round ++ round_of some round) in
+    ap (λ n. n + cond filler 1 0) s ∙ one_more sent (led filler block)
+    ∙ ap fillers_in (sent_then late all some next round block filler pages sent more lt due k f refl)
 
 pub keeps_then : (all some next : List Block) (round : ℕ) (block : Block) (pages : List ℕ) → next ≡ some ++ block ∷ [] →
     block.queue < 8 → round % (8 / block.often) ≡ block.place →
     KeepsLatest pages (rounds_to all round ++ round_of some round) →
     KeepsLatest (set pages block.queue block.page) (rounds_to all round ++ round_of next round)
 keeps_then all some next round block pages more lt due k =
-    let e : in_round round block ≡ true = eq-eqb (round % (8 / block.often)) block.place due in
-    subst (KeepsLatest (set pages block.queue block.page))
-    (sym (sent_more all some round block e) ∙ ap (λ x. rounds_to all round ++ round_of x round) (sym more))
+    rw (more, sent_more all some round block (eq-eqb (round % (8 / block.often)) block.place due))
     (keeps_next pages (rounds_to all round ++ round_of some round) block lt k)
 
 -- if the block is not sent in the round, the lists stay
 pub list_else : (all some next : List Block) (round : ℕ) (block : Block) → next ≡ some ++ block ∷ [] →
     (round % (8 / block.often) ≡ block.place → ⊥) → rounds_to all round ++ round_of some round ≡ rounds_to all round ++ round_of next round
-list_else all some next round block more off = sym
-    (ap (λ x. rounds_to all round ++ round_of x round) more
-    ∙ sent_same all some round block (ne_eqb (round % (8 / block.often)) block.place off))
+list_else all some next round block more off =
+    rw (more, sent_same all some round block (ne_eqb (round % (8 / block.often)) block.place off))
 
 -- one more of the program's blocks
 pub seen_next : (blocks : List PageBlock) (i : ℕ) (block : PageBlock) → i < length blocks → block ≡ get_or blocks i block →
     map seen (take (i + 1) blocks) ≡ map seen (take i blocks) ++ seen block ∷ []
-seen_next blocks i block lt is =
-    ap (map seen) (take_more blocks i block lt) ∙ map-append seen (take i blocks) (get_or blocks i block ∷ [])
-    ∙ ap (λ x. map seen (take i blocks) ++ seen x ∷ []) (sym is)
+seen_next blocks i block lt is = rw (take_more blocks i block lt, ← is, map-append)
+
+-- blocks in an order: one more of them
+
+picked_append : (blocks : List Block) (xs ys : List ℕ) → picked blocks (xs ++ ys) ≡ picked blocks xs ++ picked blocks ys
+picked_append blocks [] ys = refl
+picked_append blocks (x ∷ xs) ys =
+    ap (λ z. some_block (slice_get blocks x) ++ z) (picked_append blocks xs ys)
+    ∙ sym (append_assoc (some_block (slice_get blocks x)) (picked blocks xs) (picked blocks ys))
+
+pub picked_next : (blocks : List Block) (order : List ℕ) (k : ℕ) (block : Block) → k < length order →
+    slice_get blocks (get_or order k 0) ≡ Some block → picked blocks (take (k + 1) order) ≡ picked blocks (take k order) ++ block ∷ []
+picked_next blocks order k block lt e =
+    ap (picked blocks) (take_more order k 0 lt) ∙ picked_append blocks (take k order) (get_or order k 0 ∷ [])
+    ∙ ap (λ z. picked blocks (take k order) ++ z) (append-nil (some_block (slice_get blocks (get_or order k 0))) ∙ ap some_block e)

@@ -13,11 +13,12 @@ use Rattle.ttx_plan.specs.Acceptance.{IsPlanned, IsTransmitted, PlannedIsAccepte
 use Rattle.ttx_plan.specs.Contents.{is_sent_to}
 use Rattle.ttx_witness.specs.finding.Finding.{CanBeAccepted, IsLeastDeadline}
 use Rattle.ttx_witness.specs.laws.SureItems.{HasSureStart, AllSureHaveStarts, SureItemsAreAccepted}
-use Rattle.ttx_plan.proofs.UnderHeaders.{authored_at}
-use Rattle.ttx_plan.proofs.Planned.{planned_is_clean, planned_is_sure}
-use Rattle.ttx_plan.proofs.Readable.{LawsBelow}
-use Rattle.ttx_plan.proofs.SentItems.{page_there, planned_items_are_sent}
+use Rattle.ttx_plan.proofs.ReadPackets.{LawsBelow}
+use Rattle.ttx_plan.proofs.RepeatedHeaders.{planned_is_sure}
+use Rattle.ttx_plan.proofs.ServicePages.{authored_is, page_there}
 use Rattle.ttx_plan.proofs.SteadyPages.{planned_is_steady}
+use Rattle.ttx_plan.proofs.UnderHeaders.{planned_is_clean}
+use Rattle.ttx_plan.proofs.WholeBlocks.{planned_items_are_sent}
 
 -- an item that a viewer sees is sent; or it is blank, and receivers surely clear
 sent_or_blank : (blank : BlankIsTested) (class : Class) (p : Page) (item : Item) → IsPage p → HasLinks p → needed p item ≡ true →
@@ -55,7 +56,7 @@ module _ (laws : LawsBelow) (written : WrittenLinksAreRead) (own : SteadySendsIt
       })
       (λ n p at item need.
       let there = page_there service.pages n p at in
-      let a = authored_at service.serial service.pages c.service_is.pages n there.0 there.1 in
+      let a = authored_is service.serial service.pages c.service_is.pages n there.0 there.1 in
       let is : IsPage p = subst IsPage there.2 a.page in
       let l : HasLinks p = subst HasLinks there.2 (c.linked n there.0 there.1) in
       let t = planned_items_are_sent laws written late class service cycle c n p at in

@@ -5,6 +5,7 @@ use Rattle.std.specs.List.{AllByRecursion}
 use Rattle.std.proofs.lemmas.List.Sums.{sum_by-cons, sum_by-append}
 use Rattle.ttx_plan.specs.Blocks.{Block, round_of, rounds_to}
 use Rattle.ttx_plan.specs.Ranges.{IsOften}
+use Rattle.ttx_plan.proofs.OftenNumbers.{by_often}
 use Rattle.ttx_plan.proofs.PlacedBlocks.{IsInRounds}
 
 -- w for each of the first n rounds in which the block is sent
@@ -17,7 +18,7 @@ sum_same f g [] h = refl
 sum_same f g (b ∷ blocks) h = let k : sum_by f blocks ≡ sum_by g blocks = sum_same f g blocks h
     in omega (arith, h b, sum_by-cons f b blocks, sum_by-cons g b blocks)
 
-sum_filter : (f : Block → ℕ) (p : Block → Bool) (blocks : List Block) → sum_by f (filter p blocks) ≡ sum_by (λ b. cond (p b) (f b) 0) blocks
+pub sum_filter : (f : Block → ℕ) (p : Block → Bool) (blocks : List Block) → sum_by f (filter p blocks) ≡ sum_by (λ b. cond (p b) (f b) 0) blocks
 sum_filter f p [] = refl
 sum_filter f p (b ∷ blocks) =
     let h : sum_by f (filter p blocks) ≡ sum_by (λ b. cond (p b) (f b) 0) blocks = sum_filter f p blocks in
@@ -42,10 +43,8 @@ sum_rounds f blocks zero = zeros blocks
     zeros [] = refl
     zeros (b ∷ bs) = let h : 0 ≡ sum_by (λ (b : Block). 0) bs = zeros bs in omega (arith, h, sum_by-cons (λ (b : Block). 0) b bs)
 sum_rounds f blocks (suc n) =
-    sum_by-append f (rounds_to blocks n) (round_of blocks n)
-    ∙ ap (λ x. x + sum_by f (round_of blocks n)) (sum_rounds f blocks n)
-    ∙ ap (λ x. sum_by (λ b. in_rounds b.often b.place n (f b)) blocks + x) (sum_filter f (λ b. eqb (n % (8 / b.often)) b.place) blocks)
-    ∙ sum_both (λ b. in_rounds b.often b.place n (f b)) (λ b. cond (eqb (n % (8 / b.often)) b.place) (f b) 0) blocks
+    rw (sum_by-append f (rounds_to blocks n) (round_of blocks n), sum_rounds f blocks n, sum_filter f (λ b. eqb (n % (8 / b.often)) b.place) blocks)
+    (sum_both (λ b. in_rounds b.often b.place n (f b)) (λ b. cond (eqb (n % (8 / b.often)) b.place) (f b) 0) blocks)
 
 -- in eight rounds a block is sent `often` times, whatever its place
 once : (place w : ℕ) → place < 8 → in_rounds 1 place 8 w ≡ 1 * w
@@ -76,16 +75,8 @@ eight_times zero w lt = omega arith
 eight_times (suc n) w lt = absurd (omega (arith, lt))
 
 pub in_eight_rounds : (often place w : ℕ) → IsOften often → place < 8 / often → in_rounds often place 8 w ≡ often * w
-in_eight_rounds zero place w o lt = absurd (omega (arith, o.some))
-in_eight_rounds (suc zero) place w o lt = once place w lt
-in_eight_rounds (suc (suc zero)) place w o lt = twice place w lt
-in_eight_rounds (suc (suc (suc zero))) place w o lt = let e : 2 ≡ 0 = o.divides in absurd (omega arith)
-in_eight_rounds (suc (suc (suc (suc zero)))) place w o lt = four_times place w lt
-in_eight_rounds (suc (suc (suc (suc (suc zero))))) place w o lt = let e : 3 ≡ 0 = o.divides in absurd (omega arith)
-in_eight_rounds (suc (suc (suc (suc (suc (suc zero)))))) place w o lt = let e : 2 ≡ 0 = o.divides in absurd (omega arith)
-in_eight_rounds (suc (suc (suc (suc (suc (suc (suc zero))))))) place w o lt = let e : 1 ≡ 0 = o.divides in absurd (omega arith)
-in_eight_rounds (suc (suc (suc (suc (suc (suc (suc (suc zero)))))))) place w o lt = eight_times place w lt
-in_eight_rounds (suc (suc (suc (suc (suc (suc (suc (suc (suc n))))))))) place w o lt = absurd (omega (arith, o.most))
+in_eight_rounds often place w = by_often (λ n. place < 8 / n → in_rounds n place 8 w ≡ n * w) (once place w) (twice place w) (four_times place w)
+    (eight_times place w) often
 
 pub sum_sent : (f : Block → ℕ) (blocks : List Block) → AllByRecursion IsInRounds blocks →
     sum_by f (rounds_to blocks 8) ≡ sum_by (λ b. b.often * f b) blocks

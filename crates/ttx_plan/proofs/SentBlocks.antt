@@ -1,14 +1,13 @@
 -- The blocks that are sent are those of the rounds, with or without time-filling headers before them.
-use Rattle.std.proofs.Common.{◌≡◌, ℕ, zero, suc, ◌+◌, Bool, true, false, ◌&&◌, ◌||◌, cond, eqb, List, [], ◌∷◌, ◌++◌, length, Some, None}
+use Rattle.std.proofs.Common.{◌≡◌, ℕ, zero, suc, ◌+◌, Bool, true, false, ◌&&◌, ◌||◌, cond, eqb, List, [], ◌∷◌, ◌++◌, length}
 use Rattle.std.proofs.Common.{refl, sym, ap, ◌∙◌, arith, inl, inr}
-use Rattle.std.specs.Prelude.{slice_get, filter, sum_by}
+use Rattle.std.specs.Prelude.{sum_by}
 use Rattle.std.specs.List.{AllByRecursion, list_any}
-use Rattle.std.proofs.lemmas.Bool.{or_cases}
 use Rattle.std.proofs.lemmas.List.Sums.{sum_by-cons}
 use Rattle.ttx_plan.specs.Blocks.{Block, led, round_of, rounds_to, latest, with_fillers, sent_blocks, has_pages, used_to, packets_in}
 use Rattle.ttx_plan.specs.Seen.{fillers_in}
-use Rattle.ttx_plan.proofs.ListElements.{all_append, all_filter}
-use Rattle.ttx_plan.proofs.PlacedBlocks.{IsInRounds, any_sent}
+use Rattle.ttx_plan.proofs.ListElements.{all_append, all_filter, Has, any_has, has_any}
+use Rattle.ttx_plan.proofs.PlacedBlocks.{IsInRounds, in_its_round, of_rounds}
 
 -- what holds for each
 
@@ -26,75 +25,39 @@ pub order_all : (P : Block → Type 0) → ((filler : Bool) (block : Block) → 
     (late : Bool) (blocks : List Block) → AllByRecursion P blocks → AllByRecursion P (sent_blocks late blocks)
 order_all P keeps late blocks a = led_all P keeps late [] (rounds_to blocks 8) (rounds_all P blocks 8 a)
 
--- a block by its place
+-- one of the blocks
 
-pub led_get : (late : Bool) (before blocks : List Block) (k : ℕ) (block : Block) → slice_get blocks k ≡ Some block → (filler : Bool)
-    × (slice_get (with_fillers late before blocks) k ≡ Some (led filler block))
-led_get late before [] k block e = let f : None ≡ Some block = e in cc
-led_get late before (b ∷ blocks) zero block e = let f : Some b ≡ Some block = e in let g : b ≡ block = cc in let filler = late
-    && eqb (latest b.queue before) b.page in (filler, ap (λ x. Some (led (late && eqb (latest b.queue before) b.page) x)) g)
-led_get late before (b ∷ blocks) (suc k) block e = led_get late (b ∷ before) blocks k block e
+pub led_has : (late : Bool) (before blocks : List Block) (block : Block) → Has block blocks → (filler : Bool)
+    × Has (led filler block) (with_fillers late before blocks)
+led_has late before [] block h = absurd h
+led_has late before (b ∷ blocks) block (inl e) = let filler = late && eqb (latest b.queue before) b.page in (filler, inl (ap (led _) e))
+led_has late before (b ∷ blocks) block (inr h) = let r = led_has late (b ∷ before) blocks block h in (r.0, inr r.1)
 
 -- the queues that have pages
 
-abbrev of_queue : ℕ → Block → Bool
-of_queue queue block = eqb block.queue queue
-
-any_append : (p : Block → Bool) (xs ys : List Block) → list_any p (xs ++ ys) ≡ (list_any p xs || list_any p ys)
-any_append p [] ys = refl
-any_append p (x ∷ xs) ys = ap (λ b. p x || b) (any_append p xs ys) ∙ assoc (p x) (list_any p xs) (list_any p ys)
-  where
-    assoc : (a b c : Bool) → (a || (b || c)) ≡ ((a || b) || c)
-    assoc true b c = refl
-    assoc false b c = refl
-
-any_filter : (p test : Block → Bool) (xs : List Block) → list_any p (filter test xs) ≡ true → list_any p xs ≡ true
-any_filter p test [] e = e
-any_filter p test (x ∷ xs) e = by (test x) (p x) e (any_filter p test xs)
-  where
-    by : (t b : Bool) → list_any p (cond t (x ∷ filter test xs) (filter test xs)) ≡ true →
-        (list_any p (filter test xs) ≡ true → list_any p xs ≡ true) → (p x || list_any p xs) ≡ true
-    by true b e again = head (p x) e
-      where
-        head : (c : Bool) → (c || list_any p (filter test xs)) ≡ true → (c || list_any p xs) ≡ true
-        head true e = refl
-        head false e = again e
-    by false b e again = tail (p x) (again e)
-      where
-        tail : (c : Bool) → list_any p xs ≡ true → (c || list_any p xs) ≡ true
-        tail true e = refl
-        tail false e = e
-
--- the blocks of the rounds are among the blocks
-any_of_rounds : (p : Block → Bool) (blocks : List Block) (n : ℕ) → list_any p (rounds_to blocks n) ≡ true → list_any p blocks ≡ true
-any_of_rounds p blocks zero e = cc
-any_of_rounds p blocks (suc n) e = elim (or_cases (list_any p (rounds_to blocks n)) (list_any p (round_of blocks n))
-    (sym (any_append p (rounds_to blocks n) (round_of blocks n)) ∙ e)) as (λ _. list_any p blocks ≡ true) [
-      | inl before ↦ any_of_rounds p blocks n before
-      | inr last ↦ any_filter p _ blocks last
-    ]
-
 any_rounds : (p : Block → Bool) (blocks : List Block) → AllByRecursion IsInRounds blocks → list_any p (rounds_to blocks 8) ≡ list_any p blocks
-any_rounds p blocks a = same_truth (list_any p (rounds_to blocks 8)) (list_any p blocks) (any_of_rounds p blocks 8) (any_sent p blocks a)
+any_rounds p blocks a = same_truth (list_any p (rounds_to blocks 8)) (list_any p blocks)
+    (λ e. let r = any_has p (rounds_to blocks 8) e in has_any p blocks r.0 (of_rounds blocks 8 r.0 r.1) r.2)
+    (λ e. let r = any_has p blocks e in has_any p (rounds_to blocks 8) r.0 (in_its_round blocks r.0 a r.1) r.2)
   where
     same_truth : (a b : Bool) → (a ≡ true → b ≡ true) → (b ≡ true → a ≡ true) → a ≡ b
     same_truth true b there back = sym (there refl)
     same_truth false true there back = back refl
     same_truth false false there back = refl
 
-any_led : (late : Bool) (before blocks : List Block) (queue : ℕ) → has_pages (with_fillers late before blocks) queue ≡ has_pages blocks queue
+pub any_led : (late : Bool) (before blocks : List Block) (queue : ℕ) → has_pages (with_fillers late before blocks) queue ≡ has_pages blocks queue
 any_led late before [] queue = refl
 any_led late before (b ∷ blocks) queue = ap (λ x. eqb b.queue queue || x) (any_led late (b ∷ before) blocks queue)
 
 pub same_queues : (late : Bool) (blocks : List Block) → AllByRecursion IsInRounds blocks → (queue : ℕ) →
     has_pages (sent_blocks late blocks) queue ≡ has_pages blocks queue
-same_queues late blocks a queue = any_led late [] (rounds_to blocks 8) queue ∙ any_rounds (of_queue queue) blocks a
+same_queues late blocks a queue = any_led late [] (rounds_to blocks 8) queue ∙ any_rounds (λ b. eqb b.queue queue) blocks a
 
-pub same_used : (late : Bool) (blocks : List Block) → AllByRecursion IsInRounds blocks → (n : ℕ) →
-    used_to (sent_blocks late blocks) n ≡ used_to blocks n
-same_used late blocks a zero = refl
-same_used late blocks a (suc n) = ap (λ x. x ++ cond (has_pages (sent_blocks late blocks) n) (n ∷ []) []) (same_used late blocks a n)
-    ∙ ap (λ b. used_to blocks n ++ cond b (n ∷ []) []) (same_queues late blocks a n)
+-- lists of blocks with the same queues
+pub used_alike : (xs ys : List Block) → ((queue : ℕ) → has_pages xs queue ≡ has_pages ys queue) → (n : ℕ) → used_to xs n ≡ used_to ys n
+used_alike xs ys same zero = refl
+used_alike xs ys same (suc n) = ap (λ x. x ++ cond (has_pages xs n) (n ∷ []) []) (used_alike xs ys same n)
+    ∙ ap (λ b. used_to ys n ++ cond b (n ∷ []) []) (same n)
 
 -- how many there are
 

@@ -1,116 +1,91 @@
 -- The pages of a service one by one: their blocks, how often they are sent, and the queues that they use.
-use Rattle.std.proofs.Common.{◌≡◌, ℕ, zero, suc, ◌+◌, ◌-◌, ◌*◌, ◌<◌, ◌≤◌, Bool, true, cond, List, [], ◌∷◌, ◌++◌, ◌||◌, map, length, take}
-use Rattle.std.proofs.Common.{Some, None, refl, sym, ap, ◌∙◌, subst, arith, inl, inr, eqb, get_or, mul-le-mul}
+use Rattle.std.proofs.Common.{◌≡◌, ℕ, zero, suc, ◌+◌, ◌-◌, ◌*◌, ◌<◌, ◌≤◌, Bool, cond, List, [], ◌∷◌, ◌++◌, ◌||◌, map, length, take}
+use Rattle.std.proofs.Common.{add-one, Option, Some, None, refl, sym, ap, ◌∙◌, subst, arith, eqb, get_or, mul-le-mul}
+use Rattle.std.proofs.Common.{set}
 use Rattle.std.specs.Prelude.{All, slice_get, option_map, sum_by}
 use Rattle.std.specs.List.{AllByRecursion, list_any}
-use Rattle.std.proofs.lemmas.Bool.{eqb-true, or_cases}
-use Rattle.std.proofs.lemmas.List.{map-append, length-map}
+use Rattle.std.proofs.lemmas.List.{map-append, length-map, length-take-le}
+use Rattle.std.proofs.lemmas.Option.{get_or_from_slice_get, slice_get_within, slice_get-map, slice_get_read, same_Some}
 use Rattle.std.proofs.lemmas.List.Sums.{sum_by-cons, sum_by-append}
 use Rattle.ttx_page.specs.declared.class.Class.{Class}
 use Rattle.ttx_page.specs.declared.page.Page.{Page as PageValue}
 use Rattle.ttx_page.specs.Pages.{Page}
 use Rattle.ttx_page.specs.Views.{page_of}
-use Rattle.ttx_source.specs.Keys.{is_often}
 use Rattle.ttx_source.specs.Services.{Authored, authored_at, IsAuthored}
 use Rattle.ttx_plan.specs.Blocks.{Block, at_place, placed, has_pages, used_to}
 use Rattle.ttx_plan.specs.Carries.{block_at, blocks_of}
 use Rattle.ttx_plan.specs.Ranges.{ArePlaces, IsOften}
 use Rattle.ttx_plan.specs.Seen.{used_by}
-use Rattle.ttx_plan.proofs.PlacedBlocks.{IsInRounds, placed_any, placed_next}
-
-once : IsOften 1
-once = record { some = omega arith; most = omega arith; divides = refl }
-
-twice : IsOften 2
-twice = record { some = omega arith; most = omega arith; divides = refl }
-
-four_times : IsOften 4
-four_times = record { some = omega arith; most = omega arith; divides = refl }
-
-eight_times : IsOften 8
-eight_times = record { some = omega arith; most = omega arith; divides = refl }
-
-often_one : (n m : ℕ) → IsOften m → eqb n m ≡ true → IsOften n
-often_one n m o e = subst IsOften (sym (eqb-true n m e)) o
-
-pub often_ranges : (n : ℕ) → is_often n ≡ true → IsOften n
-often_ranges n e = elim (or_cases ((eqb n 1 || eqb n 2) || eqb n 4) (eqb n 8) e) as (λ _. IsOften n) [
-  | inl a ↦ elim (or_cases (eqb n 1 || eqb n 2) (eqb n 4) a) as (λ _. IsOften n) [
-    | inl b ↦ elim (or_cases (eqb n 1) (eqb n 2) b) as (λ _. IsOften n) [
-      | inl x ↦ often_one n 1 once x
-      | inr x ↦ often_one n 2 twice x
-    ]
-    | inr x ↦ often_one n 4 four_times x
-  ]
-  | inr x ↦ often_one n 8 eight_times x
-]
-
-pub get_there : {A : Type 0} (xs : List A) (i : ℕ) (x d : A) → i < length xs → x ≡ get_or xs i d → slice_get xs i ≡ Some x
-get_there [] i x d lt e = absurd (omega arith)
-get_there (y ∷ xs) zero x d lt e = ap Some (sym e)
-get_there (y ∷ xs) (suc i) x d lt e = get_there xs i x d (omega arith) e
+use Rattle.ttx_plan.proofs.OftenNumbers.{often_ranges}
+use Rattle.ttx_plan.proofs.PlacedBlocks.{IsInRounds, placed_all, placed_none, placed_next}
 
 -- the page at an index of a list, as a function shows it
-at_index : {A : Type 0} (view : A → Page) (values : List A) (pages : List Authored) (i often : ℕ) (value : A) → map view values
-    ≡ map (λ p. p.page) pages → slice_get values i ≡ Some value →
-    option_map (λ p. p.often) (slice_get pages i) ≡ Some often → slice_get pages i ≡ Some (authored_at (view value) often)
-at_index view [] pages i often value same v o = let e : None ≡ Some value = v in cc
-at_index view (x ∷ values) [] i often value same v o = let e : None ≡ Some often = o in cc
-at_index view (x ∷ values) (p ∷ pages) zero often value same v o =
-    let first : Some x ≡ Some value = v in
-    let times : Some p.often ≡ Some often = o in
-    let is : x ≡ value = cc in
-    let so_often : p.often ≡ often = cc in
-    let e : view x ∷ map view values ≡ p.page ∷ map (λ p. p.page) pages = same in
-    let page : view x ≡ p.page = cc in
-    ap (λ q. Some (authored_at q p.often)) (sym page) ∙ ap (λ q. Some (authored_at (view q) p.often)) is
-    ∙ ap (λ n. Some (authored_at (view value) n)) so_often
-at_index view (x ∷ values) (p ∷ pages) (suc i) often value same v o =
-    let e : view x ∷ map view values ≡ p.page ∷ map (λ p. p.page) pages = same in
-    let rest : map view values ≡ map (λ p. p.page) pages = cc in
-    at_index view values pages i often value rest v o
+page_shown : (values : List PageValue) (pages : List Authored) (i : ℕ) (value : PageValue) → map page_of values ≡ map (λ p. p.page) pages →
+    i < length values → value ≡ get_or values i value → option_map (λ p. p.page) (slice_get pages i) ≡ Some (page_of value)
+page_shown values pages i value same lt read = sym (slice_get-map (λ (p : Authored). p.page) pages i) ∙ ap (λ xs. slice_get xs i) (sym same)
+    ∙ slice_get-map page_of values i ∙ ap (option_map page_of) (slice_get_read values (length values) i value refl lt read)
 
 pub page_at_index : (values : List PageValue) (pages : List Authored) (i often : ℕ) (value : PageValue) → map page_of values
-    ≡ map (λ p. p.page) pages → slice_get values i ≡ Some value →
+    ≡ map (λ p. p.page) pages → i < length values → value ≡ get_or values i value →
     option_map (λ p. p.often) (slice_get pages i) ≡ Some often → slice_get pages i ≡ Some (authored_at (page_of value) often)
-page_at_index = at_index page_of
+page_at_index values pages i often value same lt read o = by (slice_get pages i) (page_shown values pages i value same lt read) o
+  where
+    by : (page : Option Authored) → option_map (λ p. p.page) page ≡ Some (page_of value) → option_map (λ p. p.often) page ≡ Some often →
+        page ≡ Some (authored_at (page_of value) often)
+    by None e f = cc
+    by (Some p) e f =
+        let page : p.page ≡ page_of value = same_Some p.page (page_of value) e in
+        let times : p.often ≡ often = same_Some p.often often f in
+        ap (λ x. Some (authored_at x p.often)) page ∙ ap (λ n. Some (authored_at (page_of value) n)) times
 
-there : {A : Type 0} (xs : List A) (i : ℕ) (x d : A) → slice_get xs i ≡ Some x → (i < length xs) × (get_or xs i d ≡ x)
-there [] i x d e = let f : None ≡ Some x = e in cc
-there (y ∷ xs) zero x d e = let f : Some y ≡ Some x = e in let g : y ≡ x = cc in (omega arith, g)
-there (y ∷ xs) (suc i) x d e = let r = there xs i x d e in (omega (arith, r.0), r.1)
+-- and its id
+pub id_there : (values : List PageValue) (pages : List Authored) (i : ℕ) (value : PageValue) → map page_of values
+    ≡ map (λ p. p.page) pages → i < length values → value ≡ get_or values i value →
+    option_map (λ (p : Authored). p.page.id) (slice_get pages i) ≡ Some (page_of value).id
+id_there values pages i value same lt read = by (slice_get pages i) (page_shown values pages i value same lt read)
+  where
+    by : (page : Option Authored) → option_map (λ p. p.page) page ≡ Some (page_of value) →
+        option_map (λ (p : Authored). p.page.id) page ≡ Some (page_of value).id
+    by None e = cc
+    by (Some p) e = ap (option_map (λ (q : Page). q.id)) e
 
-pub often_at : (serial : Bool) (pages : List Authored) (i : ℕ) (page : Authored) → All (IsAuthored serial) pages → slice_get pages i
+pub authored_is : (serial : Bool) (pages : List Authored) → All (IsAuthored serial) pages → (i : ℕ) (authored : Authored) →
+    slice_get pages i ≡ Some authored → IsAuthored serial authored
+authored_is serial pages a i authored e =
+    subst (IsAuthored serial) (get_or_from_slice_get pages i authored authored e) (a i authored (slice_get_within pages i authored e))
+
+-- the page at an index of the service
+pub page_there : (pages : List Authored) (n : ℕ) (p : Page) → slice_get (map (λ authored. authored.page) pages) n ≡ Some p →
+    (authored : Authored) × (slice_get pages n ≡ Some authored) × (authored.page ≡ p)
+page_there [] n p e = let f : None ≡ Some p = e in cc
+page_there (a ∷ pages) zero p e = let f : Some a.page ≡ Some p = e in let g : a.page ≡ p = cc in (a, refl, g)
+page_there (a ∷ pages) (suc n) p e = page_there pages n p e
+
+pub each_often : (serial : Bool) (pages : List Authored) → All (IsAuthored serial) pages → (i : ℕ) (page : Authored) → slice_get pages i
     ≡ Some page → IsOften page.often
-often_at serial pages i page a e =
-    let r = there pages i page page e in
-    let one : IsAuthored serial page = subst (IsAuthored serial) r.1 (a i page r.0) in
-    often_ranges page.often one.often
+each_often serial pages a i page e = often_ranges page.often (authored_is serial pages a i page e).often
+
+pub listed_page : (page : Option Authored) (often : ℕ) → option_map (λ (p : Authored). p.often) page ≡ Some often → (p : Authored)
+    × ((page ≡ Some p) × (p.often ≡ often))
+listed_page None often e = let f : None ≡ Some often = e in cc
+listed_page (Some p) often e = let f : Some p.often ≡ Some often = e in (p, (refl, cc))
 
 pub often_there : (serial : Bool) (pages : List Authored) (i often : ℕ) → All (IsAuthored serial) pages →
     option_map (λ p. p.often) (slice_get pages i) ≡ Some often → IsOften often
-often_there serial [] i often a e = let f : None ≡ Some often = e in cc
-often_there serial (p ∷ pages) zero often a e =
-    let f : Some p.often ≡ Some often = e in
-    let g : p.often ≡ often = cc in
-    let first : IsAuthored serial p = a 0 p (omega arith) in
-    subst IsOften g (often_ranges p.often first.often)
-often_there serial (p ∷ pages) (suc i) often a e = often_there serial pages i often (λ k d lt. a (suc k) d (omega arith)) e
+often_there serial pages i often a e =
+    let p = listed_page (slice_get pages i) often e in subst IsOften p.1.1 (each_often serial pages a i p.0 p.1.0)
 
 pub blocks_in_rounds : (class : Class) (serial : Bool) (spread : List ℕ) (pages : List Authored) → All (IsAuthored serial) pages →
     ArePlaces spread pages → AllByRecursion IsInRounds (placed spread (blocks_of class pages))
-blocks_in_rounds class serial [] [] a range = tt
-blocks_in_rounds class serial [] (p ∷ pages) a range =
-    let first : IsAuthored serial p = a 0 p (omega arith) in (
-      record { often = often_ranges p.often first.often; place = range 0 p refl },
-      blocks_in_rounds class serial [] pages (λ k d lt. a (suc k) d (omega arith)) (λ i q e. range (suc i) q e),
-    )
-blocks_in_rounds class serial (place ∷ spread) [] a range = tt
-blocks_in_rounds class serial (place ∷ spread) (p ∷ pages) a range =
-    let first : IsAuthored serial p = a 0 p (omega arith) in (
-      record { often = often_ranges p.often first.often; place = range 0 p refl },
-      blocks_in_rounds class serial spread pages (λ k d lt. a (suc k) d (omega arith)) (λ i q e. range (suc i) q e),
-    )
+blocks_in_rounds class serial spread [] a range = subst (AllByRecursion IsInRounds) (placed_none spread) tt
+blocks_in_rounds class serial [] (p ∷ pages) a range = (
+  record { often = often_ranges p.often (a 0 p (omega arith)).often; place = range 0 p refl },
+  blocks_in_rounds class serial [] pages (λ k d lt. a (suc k) d (omega arith)) (λ i q e. range (suc i) q e),
+)
+blocks_in_rounds class serial (place ∷ spread) (p ∷ pages) a range = (
+  record { often = often_ranges p.often (a 0 p (omega arith)).often; place = range 0 p refl },
+  blocks_in_rounds class serial spread pages (λ k d lt. a (suc k) d (omega arith)) (λ i q e. range (suc i) q e),
+)
 
 -- one more page
 pub take_next : {A : Type 0} (xs : List A) (n : ℕ) (x : A) → slice_get xs n ≡ Some x → take (suc n) xs ≡ take n xs ++ x ∷ []
@@ -120,33 +95,28 @@ take_next (y ∷ ys) (suc n) x h = ap (λ z. y ∷ z) (take_next ys n x h)
 
 pub blocks_next : (class : Class) (pages : List Authored) (i : ℕ) (page : Authored) → slice_get pages i ≡ Some page →
     blocks_of class (take (i + 1) pages) ≡ blocks_of class (take i pages) ++ block_at class page ∷ []
-blocks_next class pages i page e =
-    let n : i + 1 ≡ suc i = omega arith in
-    ap (λ k. blocks_of class (take k pages)) n ∙ ap (blocks_of class) (take_next pages i page e)
-    ∙ map-append (block_at class) (take i pages) (page ∷ [])
+blocks_next class pages i page e = rw (add-one, take_next pages i page e, map-append)
 
 -- the same with places
 pub placed_blocks_next : (spread : List ℕ) (class : Class) (pages : List Authored) (i : ℕ) (page : Authored) → slice_get pages i ≡ Some page →
     placed spread (blocks_of class (take (i + 1) pages))
     ≡ placed spread (blocks_of class (take i pages)) ++ at_place (get_or spread i 0) (block_at class page) ∷ []
 placed_blocks_next spread class pages i page e =
-    ap (placed spread) (blocks_next class pages i page e) ∙ placed_next spread (blocks_of class (take i pages)) (block_at class page)
-    ∙ ap (λ n. placed spread (blocks_of class (take i pages)) ++ at_place (get_or spread n 0) (block_at class page) ∷ [])
-    (length-map (take i pages) (block_at class) ∙ taken pages i page e)
-  where
-    taken : {A : Type 0} (xs : List A) (n : ℕ) (x : A) → slice_get xs n ≡ Some x → length (take n xs) ≡ n
-    taken [] n x h = let e : None ≡ Some x = h in cc
-    taken (y ∷ ys) zero x h = refl
-    taken (y ∷ ys) (suc n) x h = ap suc (taken ys n x h)
+    rw (
+      blocks_next class pages i page e,
+      placed_next spread (blocks_of class (take i pages)) (block_at class page),
+      length-map,
+      length-take-le i pages (omega (arith, slice_get_within pages i page e)),
+    )
 
 pub sum_next : (f : Block → ℕ) (class : Class) (pages : List Authored) (i : ℕ) (page : Authored) → slice_get pages i ≡ Some page →
     sum_by f (blocks_of class (take (i + 1) pages)) ≡ sum_by f (blocks_of class (take i pages)) + f (block_at class page)
 sum_next f class pages i page e =
-    ap (sum_by f) (blocks_next class pages i page e) ∙ sum_by-append f (blocks_of class (take i pages)) (block_at class page ∷ [])
-    ∙ ap (λ n. sum_by f (blocks_of class (take i pages)) + n) (one (block_at class page))
-  where
-    one : (b : Block) → sum_by f (b ∷ []) ≡ f b
-    one b = omega (arith, sum_by-cons f b [])
+    rw (
+      blocks_next class pages i page e,
+      sum_by-append f (blocks_of class (take i pages)) (block_at class page ∷ []),
+      sum_by-cons f (block_at class page) [],
+    ) (omega arith)
 
 -- the queues that have pages
 
@@ -168,16 +138,64 @@ used_same class values pages (suc n) same =
     ∙ ap (λ b. used_to (blocks_of class pages) n ++ cond b (n ∷ []) [])
     (any_value n values ∙ ap (list_any (λ p. eqb (p.id.mag - 1) n)) same ∙ any_page class n pages)
 
--- places do not change the queues that are used
-pub same_used_by : (blocks : List Block) (spread : List ℕ) (n : ℕ) → used_to blocks n ≡ used_to (placed spread blocks) n
-same_used_by blocks spread zero = refl
-same_used_by blocks spread (suc n) =
-    ap (λ x. x ++ cond (has_pages blocks n) (n ∷ []) []) (same_used_by blocks spread n)
-    ∙ ap (λ b. used_to (placed spread blocks) n ++ cond b (n ∷ []) []) (sym (placed_any (λ b. eqb b.queue n) (λ place b. refl) spread blocks))
-
 pub same_lengths : (values : List PageValue) (pages : List Authored) → map page_of values ≡ map (λ p. p.page) pages → length values ≡ length pages
 same_lengths values pages e = sym (length-map values page_of) ∙ ap length e ∙ length-map pages (λ p. p.page)
 
 -- a product of two small numbers
 pub product_most : (n m : ℕ) → n ≤ 8 → m ≤ 26 → n * m ≤ 208
 product_most n m a b = let h : n * m ≤ 8 * 26 = mul-le-mul a b in omega arith
+
+-- a block by its index, at the place that the list has for it
+placed_at : (places : List ℕ) (blocks : List Block) (k : ℕ) (block : Block) → slice_get blocks k ≡ Some block →
+    slice_get (placed places blocks) k ≡ Some (at_place (get_or places k block.place) block)
+placed_at [] blocks k block e = e
+placed_at (place ∷ places) [] k block e = let f : None ≡ Some block = e in cc
+placed_at (place ∷ places) (b ∷ blocks) zero block e =
+    let f : Some b ≡ Some block = e in
+    let g : b ≡ block = cc in
+    ap (λ x. Some (at_place place x)) g
+placed_at (place ∷ places) (b ∷ blocks) (suc k) block e = placed_at places blocks k block e
+
+placed_set : (places : List ℕ) (blocks : List Block) (n place : ℕ) (block : Block) → n < length places → slice_get blocks n ≡ Some block →
+    placed (set places n place) blocks ≡ set (placed places blocks) n (at_place place block)
+placed_set [] blocks n place block lt e = absurd (omega (arith, lt))
+placed_set (p ∷ places) [] n place block lt e = let f : None ≡ Some block = e in cc
+placed_set (p ∷ places) (b ∷ blocks) zero place block lt e =
+    let f : Some b ≡ Some block = e in
+    let g : b ≡ block = cc in
+    ap (λ x. at_place place x ∷ placed places blocks) g
+placed_set (p ∷ places) (b ∷ blocks) (suc n) place block lt e =
+    ap (λ x. at_place p b ∷ x) (placed_set places blocks n place block (omega (arith, lt)) e)
+
+block_there : (class : Class) (pages : List Authored) (n : ℕ) (page : Authored) → slice_get pages n ≡ Some page →
+    slice_get (blocks_of class pages) n ≡ Some (block_at class page)
+block_there class pages n page e = slice_get-map (block_at class) pages n ∙ ap (option_map (block_at class)) e
+
+pub page_block : (class : Class) (places : List ℕ) (pages : List Authored) (n : ℕ) (page : Authored) → slice_get pages n ≡ Some page →
+    slice_get (placed places (blocks_of class pages)) n ≡ Some (at_place (get_or places n 0) (block_at class page))
+page_block class places pages n page e = placed_at places (blocks_of class pages) n (block_at class page) (block_there class pages n page e)
+
+pub page_placed : (class : Class) (places : List ℕ) (pages : List Authored) (n place : ℕ) (page : Authored) → n < length places →
+    slice_get pages n ≡ Some page →
+    placed (set places n place) (blocks_of class pages) ≡ set (placed places (blocks_of class pages)) n (at_place place (block_at class page))
+page_placed class places pages n place page lt e =
+    placed_set places (blocks_of class pages) n place (block_at class page) lt (block_there class pages n page e)
+
+often_each : (class : Class) (serial : Bool) (pages : List Authored) → All (IsAuthored serial) pages →
+    AllByRecursion (λ (b : Block). IsOften b.often) (blocks_of class pages)
+often_each class serial [] a = tt
+often_each class serial (p ∷ pages) a =
+    (often_ranges p.often (a 0 p (omega arith)).often, often_each class serial pages (λ k d lt. a (suc k) d (omega (arith, lt))))
+
+pub blocks_often : (class : Class) (serial : Bool) (places : List ℕ) (pages : List Authored) → All (IsAuthored serial) pages →
+    AllByRecursion (λ (b : Block). IsOften b.often) (placed places (blocks_of class pages))
+blocks_often class serial places pages a =
+    placed_all (λ (b : Block). IsOften b.often) (λ place b o. o) places (blocks_of class pages) (often_each class serial pages a)
+
+pub placed_size : (places : List ℕ) (blocks : List Block) → length (placed places blocks) ≡ length blocks
+placed_size [] blocks = refl
+placed_size (place ∷ places) [] = refl
+placed_size (place ∷ places) (b ∷ blocks) = ap suc (placed_size places blocks)
+
+pub blocks_size : (class : Class) (places : List ℕ) (pages : List Authored) → length (placed places (blocks_of class pages)) ≡ length pages
+blocks_size class places pages = placed_size places (blocks_of class pages) ∙ length-map pages (block_at class)

@@ -1,19 +1,22 @@
 -- The burden of a place is settled by the places of the pages that come before.
-use Rattle.std.proofs.Common.{◌≡◌, ℕ, zero, suc, ◌+◌, ◌*◌, ◌/◌, ◌%◌, ◌^◌, ◌<◌, ◌≤◌, Bool, true, false, cond, eqb, ltb, ◌&&◌, ◌||◌, List, [], ◌∷◌, ◌++◌, length, take}
-use Rattle.std.proofs.Common.{Option, Some, None, refl, sym, ap, ◌∙◌, subst, arith, inl, inr, get_or}
+use Rattle.std.proofs.Common.{◌≡◌, ℕ, zero, suc, ◌+◌, ◌*◌, ◌/◌, ◌%◌, ◌<◌, ◌≤◌, Bool, true, false, cond, eqb, ltb, ◌&&◌, List, [], ◌∷◌, ◌++◌}
+use Rattle.std.proofs.Common.{length, take}
+use Rattle.std.proofs.Common.{min, Option, Some, None, refl, sym, ap, ◌∙◌, subst, arith, inl, inr, get_or}
 use Rattle.std.specs.Prelude.{slice_get, filter}
-use Rattle.std.proofs.lemmas.Bool.{cond-true, cond-false, cases_Bool, cases_eq, cases_lt, lt-ltb, eqb-true, eq-eqb}
+use Rattle.std.proofs.lemmas.Bool.{cond-true, cond-false, cases_Bool, cases_eq, cases_lt, lt-ltb, eqb-true, eq-eqb, and_parts, and_from, or_left}
+use Rattle.std.proofs.lemmas.Bool.{or_right, both_ways}
+use Rattle.std.proofs.lemmas.List.{length-take}
 use Rattle.std.proofs.lemmas.List.Sums.{fails_before_first, passes_at_first}
 use Rattle.std.proofs.lemmas.Option.{slice_get_within, get_or_from_slice_get}
 use Rattle.ttx_page.specs.declared.class.Class.{Class}
 use Rattle.ttx_source.specs.Services.{Authored}
-use Rattle.ttx_plan.specs.Blocks.{Block, at_place, placed, round_of, packets_in}
+use Rattle.ttx_plan.specs.Blocks.{Block, at_place, placed}
 use Rattle.ttx_plan.specs.Carries.{block_at, blocks_of}
-use Rattle.ttx_plan.specs.Spread.{earlier, packets_so_far, burden_so_far}
+use Rattle.ttx_plan.specs.Spread.{earlier, burden_so_far}
 use Rattle.ttx_plan.specs.SubpageTurns.{take_turns, first_of_turns, turn, turn_of, comes_before, is_mate_or_none, is_earlier_mate, mates_so_far}
-use Rattle.ttx_plan.specs.SubpageTurns.{count_below, share_number, rounds_late, burden, steps, count_of_turns}
+use Rattle.ttx_plan.specs.SubpageTurns.{count_below, share_number, steps, count_of_turns}
 use Rattle.ttx_plan.proofs.SubpageLists.{listed_at, takes_own_turn}
-use Rattle.ttx_plan.proofs.PlacedPages.{page_block, blocks_size}
+use Rattle.ttx_plan.proofs.ServicePages.{page_block, blocks_size}
 
 -- two lists of places agree where a page takes its place before the one at an index
 abbrev pub AgreeBefore : List Authored → List ℕ → List ℕ → ℕ → Authored → Type 0
@@ -39,7 +42,8 @@ mate_alike pages places others at p round other agree = by (slice_get pages othe
 
 below_alike : (n : ℕ) (f g : ℕ → Bool) → ((k : ℕ) → f k ≡ g k) → count_below n f ≡ count_below n g
 below_alike zero f g same = refl
-below_alike (suc n) f g same = ap (λ m. m + cond {A = ℕ} (f n) 1 0) (below_alike n f g same) ∙ ap (λ (b : Bool). count_below n g + cond {A = ℕ} b 1 0) (same n)
+below_alike (suc n) f g same = ap (λ m. m + cond {A = ℕ} (f n) 1 0) (below_alike n f g same)
+    ∙ ap (λ (b : Bool). count_below n g + cond {A = ℕ} b 1 0) (same n)
 
 mates_alike : (pages : List Authored) (places others : List ℕ) (at : ℕ) (p : Authored) (round : ℕ) → AgreeBefore pages places others at p →
     mates_so_far pages places at p round ≡ mates_so_far pages others at p round
@@ -54,8 +58,7 @@ first_not_after pages at p e = elim (cases_lt at (first_of_turns pages p)) [
   | inl before ↦
       let fails = fails_before_first (take_turns p) pages at p before in
       let here : get_or pages at p ≡ p = get_or_from_slice_get pages at p p e in
-      let both : true ≡ false = sym (takes_own_turn p) ∙ ap (take_turns p) (sym here) ∙ fails in
-      cc
+      absurd (both_ways _ fails (ap (take_turns p) here ∙ takes_own_turn p))
   | inr le ↦ le
 ]
 
@@ -74,23 +77,14 @@ turn_alike pages places others at p e agree = elim (cases_eq (first_of_turns pag
       let passes = passes_at_first (take_turns p) pages p within in
       let here : get_or pages (first_of_turns pages p) p ≡ q.0 = get_or_from_slice_get pages (first_of_turns pages p) q.0 p q.1 in
       let takes : take_turns p q.0 ≡ true = ap (take_turns p) (sym here) ∙ passes in
-      let often : eqb p.often q.0.often ≡ true = second (share_number p q.0) (eqb p.often q.0.often) takes in
+      let often : eqb p.often q.0.often ≡ true = (and_parts (share_number p q.0) (eqb p.often q.0.often) takes).1 in
       let same_often : q.0.often ≡ p.often = sym (eqb-true p.often q.0.often often) in
       let before : comes_before at p (first_of_turns pages p) q.0 ≡ true =
-      later (ltb p.often q.0.often) (eqb q.0.often p.often) (ltb (first_of_turns pages p) at) (eq-eqb q.0.often p.often same_often)
-      (lt-ltb (first_of_turns pages p) at lt) in
+      or_right (ltb p.often q.0.often) _ (and_from _ _ (eq-eqb q.0.often p.often same_often) (lt-ltb (first_of_turns pages p) at lt)) in
       let places_alike = agree (first_of_turns pages p) q.0 q.1 before in
       ap (λ n. cond (eqb (first_of_turns pages p) at) None
       (Some ((n + steps pages p * (8 / p.often) / count_of_turns pages p) % (8 / p.often)))) places_alike
 ]
-  where
-    second : (a b : Bool) → (a && b) ≡ true → b ≡ true
-    second true b t = t
-    second false b t = cc
-
-    later : (a b c : Bool) → b ≡ true → c ≡ true → (a || (b && c)) ≡ true
-    later true b c s t = refl
-    later false b c s t = ap (λ x. x && c) s ∙ t
 
 -- the packets of the pages before
 
@@ -119,13 +113,6 @@ get_taken (suc n) [] k x e = let f : None ≡ Some x = e in cc
 get_taken (suc n) (z ∷ xs) zero x e = (omega arith, e)
 get_taken (suc n) (z ∷ xs) (suc k) x e = let r = get_taken n xs k x e in (omega (arith, r.0), r.1)
 
-take_sizes : (n : ℕ) (xs ys : List Block) → length xs ≡ length ys → length (take n xs) ≡ length (take n ys)
-take_sizes zero xs ys size = refl
-take_sizes (suc n) [] [] size = refl
-take_sizes (suc n) [] (y ∷ ys) size = absurd (omega (arith, size))
-take_sizes (suc n) (x ∷ xs) [] size = absurd (omega (arith, size))
-take_sizes (suc n) (x ∷ xs) (y ∷ ys) size = ap suc (take_sizes n xs ys (omega (arith, size)))
-
 earlier_alike : (class : Class) (pages : List Authored) (places others : List ℕ) (at : ℕ) (p : Authored) → AgreeBefore pages places others at p →
     earlier (placed places (blocks_of class pages)) p.often at ≡ earlier (placed others (blocks_of class pages)) p.often at
 earlier_alike class pages places others at p agree =
@@ -134,20 +121,16 @@ earlier_alike class pages places others at p agree =
     ap (λ z. z ++ filter (λ (b : Block). eqb b.often p.often) (take at (placed places (blocks_of class pages))))
     (filter_alike (λ b. ltb p.often b.often) (placed places (blocks_of class pages)) (placed others (blocks_of class pages)) size
     (λ k x y e f. alike k x y e f (λ (b : Block). ltb p.often b.often) (λ n b. refl)
-    (λ q listed t. ap (λ (b : Bool). b || (eqb q.often p.often && ltb k at)) t)))
+    (λ q listed t. or_left (ltb p.often q.often) _ t)))
     ∙ ap (λ z. filter (λ (b : Block). ltb p.often b.often) (placed others (blocks_of class pages)) ++ z)
     (filter_alike (λ b. eqb b.often p.often) (take at (placed places (blocks_of class pages))) (take at (placed others (blocks_of class pages)))
-    (take_sizes at (placed places (blocks_of class pages)) (placed others (blocks_of class pages)) size)
+    (length-take at (placed places (blocks_of class pages)) ∙ ap (min at) size ∙ sym (length-take at (placed others (blocks_of class pages))))
     (λ k x y e f.
     let there = get_taken at (placed places (blocks_of class pages)) k x e in
     let other = get_taken at (placed others (blocks_of class pages)) k y f in
     alike k x y there.1 other.1 (λ (b : Block). eqb b.often p.often) (λ n b. refl)
-    (λ q listed t. last (ltb p.often q.often) (eqb q.often p.often) (ltb k at) t (lt-ltb k at there.0))))
+    (λ q listed t. or_right (ltb p.often q.often) _ (and_from _ _ t (lt-ltb k at there.0)))))
   where
-    last : (a b c : Bool) → b ≡ true → c ≡ true → (a || (b && c)) ≡ true
-    last true b c s t = refl
-    last false b c s t = ap (λ x. x && c) s ∙ t
-
     alike : (k : ℕ) (x y : Block) → slice_get (placed places (blocks_of class pages)) k ≡ Some x →
         slice_get (placed others (blocks_of class pages)) k ≡ Some y → (test : Block → Bool) →
         ((n : ℕ) (b : Block) → test (at_place n b) ≡ test b) →
@@ -173,8 +156,8 @@ pub burden_alike : (class : Class) (pages : List Authored) (places others : List
     slice_get pages at ≡ Some p → AgreeBefore pages places others at p →
     burden_so_far class pages places at p round ≡ burden_so_far class pages others at p round
 burden_alike class pages places others at p round e agree =
-    ap (λ bs. burden pages places at p (packets_in (round_of bs round)) round) (earlier_alike class pages places others at p agree)
-    ∙ ap (λ n. (n * 8 + rounds_late (turn_of pages places at p) (8 / p.often) round) * 2 ^ 32
-    + packets_so_far (placed others (blocks_of class pages)) p.often at round) (mates_alike pages places others at p round agree)
-    ∙ ap (λ t. (mates_so_far pages others at p round * 8 + rounds_late t (8 / p.often) round) * 2 ^ 32
-    + packets_so_far (placed others (blocks_of class pages)) p.often at round) (turn_alike pages places others at p e agree)
+    rw (
+      earlier_alike class pages places others at p agree,
+      mates_alike pages places others at p round agree,
+      turn_alike pages places others at p e agree,
+    )

@@ -1,25 +1,21 @@
 -- There is one way to spread pages: two lists of places by which the same pages are spread place their blocks alike.
-use Rattle.std.proofs.Common.{◌≡◌, ℕ, zero, suc, ◌/◌, ◌<◌, ◌≤◌, Bool, true, false, eqb, ltb, ◌&&◌, List, [], ◌∷◌, length, get_or}
-use Rattle.std.proofs.Common.{Some, refl, sym, ap, ◌∙◌, subst, arith, inl, inr}
+use Rattle.std.proofs.Common.{◌≡◌, ℕ, zero, suc, ◌/◌, ◌<◌, ◌≤◌, true, eqb, ltb, ◌&&◌, List, length, get_or}
+use Rattle.std.proofs.Common.{◌+◌, ◌-◌, ◌*◌, mul-le-mul, Some, sym, ap, ◌∙◌, arith, inl, inr}
 use Rattle.std.specs.Prelude.{slice_get}
-use Rattle.std.proofs.lemmas.Bool.{cases_order, cases_eq, ltb-true, eqb-true, or_cases}
-use Rattle.std.proofs.lemmas.Option.{slice_get_within}
+use Rattle.std.proofs.lemmas.Bool.{cases_order, ltb-true, eqb-true, or_cases, and_parts}
+use Rattle.std.proofs.lemmas.Option.{slice_get_within, get_or_from_slice_get}
+use Rattle.std.proofs.lemmas.List.{same_lists}
 use Rattle.ttx_page.specs.declared.class.Class.{Class}
 use Rattle.ttx_source.specs.Services.{Authored}
-use Rattle.ttx_plan.specs.Blocks.{Block, at_place, placed}
+use Rattle.ttx_plan.specs.Blocks.{at_place, placed}
 use Rattle.ttx_plan.specs.Carries.{block_at, blocks_of}
-use Rattle.ttx_plan.specs.Ranges.{IsOften}
+use Rattle.ttx_plan.specs.SubpageTurns.{comes_before}
 use Rattle.ttx_plan.specs.Spread.{burden_so_far, IsFirstLeast, IsSpread}
 use Rattle.ttx_plan.proofs.SubpageLists.{listed_at}
-use Rattle.ttx_plan.proofs.PlacedPages.{page_block, blocks_size}
-use Rattle.ttx_plan.proofs.SpreadBurdens.{AgreeBefore, burden_alike}
-use Rattle.ttx_plan.proofs.SpreadPasses.{AreOften, at_most_half}
-use Rattle.ttx_plan.proofs.SpreadPlaces.{first_least_each}
-
--- the places agree for the pages that are sent more often, and for those before the index that are sent just as often
-record Agree (pages : List Authored) (places others : List ℕ) (often index : ℕ) : Type 0 where
-  more : (k : ℕ) (p : Authored) → slice_get pages k ≡ Some p → often < p.often → get_or places k 0 ≡ get_or others k 0
-  same : (k : ℕ) (p : Authored) → slice_get pages k ≡ Some p → p.often ≡ often → k < index → get_or places k 0 ≡ get_or others k 0
+use Rattle.ttx_plan.proofs.ServicePages.{page_block, blocks_size}
+use Rattle.ttx_plan.proofs.SpreadBurdens.{burden_alike}
+use Rattle.ttx_plan.proofs.SpreadPasses.{AreOften}
+use Rattle.ttx_plan.proofs.SpreadPlaces.{first_least_same}
 
 first_least_once : (value : ℕ → ℕ) (count a b : ℕ) → IsFirstLeast value count a → IsFirstLeast value count b → a ≡ b
 first_least_once value count a b l m = elim (cases_order a b) [
@@ -30,103 +26,42 @@ first_least_once value count a b l m = elim (cases_order a b) [
   ]
 ]
 
-agree_before : (pages : List Authored) (places others : List ℕ) (often n : ℕ) (p : Authored) → p.often ≡ often → Agree pages places others often n →
-    AgreeBefore pages places others n p
-agree_before pages places others often n p is agree = λ k q e before.
-    elim (or_cases (ltb p.often q.often) (eqb q.often p.often && ltb k n) before) as (λ _. get_or places k 0 ≡ get_or others k 0) [
-      | inl more ↦
-          let lt : p.often < q.often = ltb-true p.often q.often more in
-          agree.more k q e (omega (arith, lt, is))
-      | inr both ↦
-          let same : q.often ≡ p.often = eqb-true q.often p.often (first (eqb q.often p.often) (ltb k n) both) in
-          agree.same k q e (same ∙ is) (ltb-true k n (second (eqb q.often p.often) (ltb k n) both))
-    ]
+weighed : (a b n i : ℕ) → suc a ≤ b → i < n → a * n + i < b * n
+weighed a b n i le lt = let h : suc a * n ≤ b * n = mul-le-mul le (omega arith) in omega (arith, h, lt)
+
+-- by the order in which pages take their places
+places_agree : (class : Class) (pages : List Authored) (places others : List ℕ) → AreOften pages → IsSpread class pages places →
+    IsSpread class pages others → (m k : ℕ) (p : Authored) → slice_get pages k ≡ Some p → (8 - p.often) * length pages + k < m →
+    get_or places k 0 ≡ get_or others k 0
+places_agree class pages places others a one two zero k p e lt = absurd (omega (arith, lt))
+places_agree class pages places others a one two (suc m) k p e lt =
+    first_least_once (burden_so_far class pages others k p) (8 / p.often) (get_or places k 0) (get_or others k 0)
+    (first_least_same (burden_so_far class pages places k p) (burden_so_far class pages others k p) (8 / p.often) (get_or places k 0)
+    (λ round lt. burden_alike class pages places others k p round e
+    (λ i q f before. places_agree class pages places others a one two m i q f (sooner i q f before))) (one k p e)) (two k p e)
   where
-    first : (a b : Bool) → (a && b) ≡ true → a ≡ true
-    first true b t = refl
-    first false b t = cc
-
-    second : (a b : Bool) → (a && b) ≡ true → b ≡ true
-    second true b t = t
-    second false b t = cc
-
-agree_next : (class : Class) (pages : List Authored) (places others : List ℕ) (often n : ℕ) → IsSpread class pages places →
-    IsSpread class pages others → Agree pages places others often n → Agree pages places others often (suc n)
-agree_next class pages places others often n one two agree = record {
-  more = agree.more;
-  same = λ k p e is lt. elim (cases_eq k n) [
-    | inl here ↦
-        let listed : slice_get pages n ≡ Some p = ap (slice_get pages) (sym here) ∙ e in
-        let alike = agree_before pages places others often n p is agree in
-        ap (λ i. get_or places i 0) here
-        ∙ first_least_once (burden_so_far class pages others n p) (8 / p.often) (get_or places n 0) (get_or others n 0)
-        (first_least_each (burden_so_far class pages places n p) (burden_so_far class pages others n p) (8 / p.often) (get_or places n 0)
-        (λ round. burden_alike class pages places others n p round listed alike) (one n p listed))
-        (two n p listed)
-        ∙ ap (λ i. get_or others i 0) (sym here)
-    | inr apart ↦ agree.same k p e is (omega (arith, lt, apart))
-  ];
-}
-
-agree_all : (class : Class) (pages : List Authored) (places others : List ℕ) (often n : ℕ) → IsSpread class pages places →
-    IsSpread class pages others → Agree pages places others often 0 → Agree pages places others often n
-agree_all class pages places others often zero one two agree = agree
-agree_all class pages places others often (suc n) one two agree =
-    agree_next class pages places others often n one two (agree_all class pages places others often n one two agree)
-
-agree_half : (class : Class) (pages : List Authored) (places others : List ℕ) (often : ℕ) → IsOften often → AreOften pages →
-    IsSpread class pages places → IsSpread class pages others → Agree pages places others often 0 → Agree pages places others (often / 2) 0
-agree_half class pages places others often o a one two start =
-    let whole = agree_all class pages places others often (length pages) one two start in
-    record {
-      more = λ k p e lt. elim (cases_order often p.often) [
-        | inl same ↦ whole.same k p e (sym same) (slice_get_within pages k p e)
-        | inr apart ↦ elim apart [
-          | inl more ↦ whole.more k p e more
-          | inr less ↦
-              let half : p.often ≤ often / 2 = at_most_half often p.often o (a k p e) less in
-              absurd (omega (arith, half, lt))
+    sooner : (i : ℕ) (q : Authored) → slice_get pages i ≡ Some q → comes_before k p i q ≡ true → (8 - q.often) * length pages + i < m
+    sooner i q f before = elim (or_cases (ltb p.often q.often) (eqb q.often p.often && ltb i k) before) as
+        (λ _. (8 - q.often) * length pages + i < m) [
+          | inl more ↦
+              let few : q.often ≤ 8 = (a i q f).most in
+              let less : p.often < q.often = ltb-true p.often q.often more in
+              omega (arith, lt, weighed (8 - q.often) (8 - p.often) (length pages) i (omega arith) (slice_get_within pages i q f))
+          | inr both ↦
+              let two = and_parts (eqb q.often p.often) (ltb i k) both in
+              omega (arith, lt, ltb-true i k two.1, ap (λ n. (8 - n) * length pages) (eqb-true q.often p.often two.0))
         ]
-      ];
-      same = λ k p e is lt. absurd (omega (arith, lt));
-    }
 
-places_once : (class : Class) (pages : List Authored) (places others : List ℕ) → AreOften pages → IsSpread class pages places →
-    IsSpread class pages others → (k : ℕ) (p : Authored) → slice_get pages k ≡ Some p → get_or places k 0 ≡ get_or others k 0
-places_once class pages places others a one two =
-    let once : IsOften 1 = record { some = omega arith; most = omega arith; divides = refl } in
-    let twice : IsOften 2 = record { some = omega arith; most = omega arith; divides = refl } in
-    let four : IsOften 4 = record { some = omega arith; most = omega arith; divides = refl } in
-    let eight : IsOften 8 = record { some = omega arith; most = omega arith; divides = refl } in
-    let start : Agree pages places others 8 0 = record {
-      more = λ k p e lt. let o : IsOften p.often = a k p e in absurd (omega (arith, lt, o.most));
-      same = λ k p e is lt. absurd (omega (arith, lt));
-    } in
-    let at_4 : Agree pages places others 4 0 = agree_half class pages places others 8 eight a one two start in
-    let at_2 : Agree pages places others 2 0 = agree_half class pages places others 4 four a one two at_4 in
-    let at_1 : Agree pages places others 1 0 = agree_half class pages places others 2 twice a one two at_2 in
-    let at_0 : Agree pages places others 0 0 = agree_half class pages places others 1 once a one two at_1 in
-    λ k p e. let o : IsOften p.often = a k p e in at_0.more k p e (omega (arith, o.some))
-
-all_equal : (xs ys : List Block) → length xs ≡ length ys →
-    ((k : ℕ) (x y : Block) → slice_get xs k ≡ Some x → slice_get ys k ≡ Some y → x ≡ y) → xs ≡ ys
-all_equal [] [] size each = refl
-all_equal [] (y ∷ ys) size each = absurd (omega (arith, size))
-all_equal (x ∷ xs) [] size each = absurd (omega (arith, size))
-all_equal (x ∷ xs) (y ∷ ys) size each =
-    ap (λ z. z ∷ xs) (each 0 x y refl refl) ∙ ap (λ z. y ∷ z) (all_equal xs ys (omega (arith, size)) (λ k u v e f. each (suc k) u v e f))
+lt_suc : (n : ℕ) → n < suc n
+lt_suc n = omega arith
 
 pub spread_once : (class : Class) (pages : List Authored) (places others : List ℕ) → AreOften pages → IsSpread class pages places →
     IsSpread class pages others → placed places (blocks_of class pages) ≡ placed others (blocks_of class pages)
 spread_once class pages places others a one two =
-    all_equal (placed places (blocks_of class pages)) (placed others (blocks_of class pages))
+    same_lists (placed places (blocks_of class pages)) (placed others (blocks_of class pages))
     (blocks_size class places pages ∙ sym (blocks_size class others pages))
-    (λ k x y e f.
-    let within : k < length pages = subst (λ n. k < n) (blocks_size class places pages)
-    (slice_get_within (placed places (blocks_of class pages)) k x e) in
-    let p = listed_at pages k within in
-    let first : Some x ≡ Some (at_place (get_or places k 0) (block_at class p.0)) = sym e ∙ page_block class places pages k p.0 p.1 in
-    let second : Some y ≡ Some (at_place (get_or others k 0) (block_at class p.0)) = sym f ∙ page_block class others pages k p.0 p.1 in
-    let x_is : x ≡ at_place (get_or places k 0) (block_at class p.0) = cc in
-    let y_is : y ≡ at_place (get_or others k 0) (block_at class p.0) = cc in
-    x_is ∙ ap (λ n. at_place n (block_at class p.0)) (places_once class pages places others a one two k p.0 p.1) ∙ sym y_is)
+    (λ k d lt.
+    let p = listed_at pages k (omega (arith, lt, blocks_size class places pages)) in
+    get_or_from_slice_get (placed places (blocks_of class pages)) k _ d (page_block class places pages k p.0 p.1)
+    ∙ ap (λ n. at_place n (block_at class p.0)) (places_agree class pages places others a one two _ k p.0 p.1 (lt_suc _))
+    ∙ sym (get_or_from_slice_get (placed others (blocks_of class pages)) k _ d (page_block class others pages k p.0 p.1)))

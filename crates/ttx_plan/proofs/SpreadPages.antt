@@ -1,8 +1,8 @@
 -- The blocks of a service's pages with their places: one place is changed, and places are in range.
 use Rattle.std.proofs.Common.{◌≡◌, ℕ, zero, suc, ◌+◌, ◌/◌, ◌%◌, ◌<◌, ◌≤◌, Bool, true, false, cond, eqb}
-use Rattle.std.proofs.Common.{List, [], ◌∷◌, length, set, get_or, Option}
-use Rattle.std.proofs.Common.{Some, None, refl, sym, ap, ◌∙◌, subst, arith, inl, inr}
-use Rattle.std.specs.Prelude.{slice_get, option_map}
+use Rattle.std.proofs.Common.{List, [], ◌∷◌, length, set, get_or}
+use Rattle.std.proofs.Common.{Some, sym, ap, ◌∙◌, subst, arith, inl, inr}
+use Rattle.std.specs.Prelude.{slice_get}
 use Rattle.std.proofs.lemmas.Bool.{cases_lt}
 use Rattle.std.proofs.lemmas.List.{get_or_past}
 use Rattle.ttx_page.specs.declared.class.Class.{Class}
@@ -14,8 +14,8 @@ use Rattle.ttx_plan.specs.Ranges.{ArePlaces, IsOften}
 use Rattle.ttx_plan.specs.Spread.{IsFirstLeast, IsSpread, burden_so_far, packets_so_far}
 use Rattle.ttx_plan.specs.SubpageTurns.{burden}
 use Rattle.ttx_plan.specs.Spreading.{AreCounted, IsSpreadTo}
-use Rattle.ttx_plan.proofs.SpreadPasses.{period_range}
-use Rattle.ttx_plan.proofs.PlacedPages.{page_block, page_placed}
+use Rattle.ttx_plan.proofs.OftenNumbers.{period_range}
+use Rattle.ttx_plan.proofs.ServicePages.{page_block, page_placed}
 use Rattle.ttx_plan.proofs.SpreadPlaces.{weight, first_least_same, spread_more, counted_more, spread_else, counted_else}
 
 -- pages that are spread are at places in range
@@ -23,11 +23,6 @@ pub spread_in_range : (class : Class) (places : List ℕ) (pages : List Authored
 spread_in_range class places pages spread = λ i page e. (spread i page e).within
 
 -- one more page
-
-pub listed_page : (page : Option Authored) (often : ℕ) → option_map (λ (p : Authored). p.often) page ≡ Some often → (p : Authored)
-    × ((page ≡ Some p) × (p.often ≡ often))
-listed_page None often e = let f : None ≡ Some often = e in cc
-listed_page (Some p) often e = let f : Some p.often ≡ Some often = e in (p, (refl, cc))
 
 -- the page at the index takes its place
 pub page_spread : (class : Class) (places : List ℕ) (pages : List Authored) (n often place : ℕ) (burdens packets : List ℕ) (page : Authored) →
@@ -39,9 +34,9 @@ pub page_spread : (class : Class) (places : List ℕ) (pages : List Authored) (n
 page_spread class places pages n often place burdens packets page lt e is range least judged counted spread =
     let few : 8 / page.often ≤ 8 = (period_range page.often (subst IsOften (sym is) range)).1 in
     let more = spread_more class pages places n place page lt e
-    (first_least_same (λ round. get_or burdens round 0) (burden_so_far class pages places n page) (8 / page.often) place few
-    (λ round below. judged round below
-    ∙ ap (λ m. burden pages places n page m round) (counted.each round below
+    (first_least_same (λ round. get_or burdens round 0) (burden_so_far class pages places n page) (8 / page.often) place
+    (λ round below. judged round (omega (arith, below, few))
+    ∙ ap (λ m. burden pages places n page m round) (counted.each round (omega (arith, below, few))
     ∙ ap (λ o. packets_so_far (placed places (blocks_of class pages)) o n round) (sym is)))
     (subst (λ o. IsFirstLeast (λ round. get_or burdens round 0) (8 / o) place) (sym is) least))
     (subst (λ o. IsSpreadTo class pages places o n) (sym is) spread) in

@@ -1,9 +1,9 @@
 -- All blocks that are sent `often` times have their places; those that are sent half as often come next.
-use Rattle.std.proofs.Common.{◌≡◌, ◌⊎◌, ℕ, zero, suc, ◌+◌, ◌/◌, ◌%◌, ◌<◌, ◌≤◌, Bool, true, false, cond, eqb, ltb, List, [], ◌∷◌, ◌++◌, length, take}
-use Rattle.std.proofs.Common.{Some, None, refl, sym, ap, ◌∙◌, subst, arith, inl, inr, replicate}
+use Rattle.std.proofs.Common.{◌≡◌, ℕ, ◌+◌, ◌/◌, ◌%◌, ◌<◌, ◌≤◌, Bool, false, cond, eqb, ltb, List, [], ◌∷◌, ◌++◌, length, take}
+use Rattle.std.proofs.Common.{Some, refl, sym, ap, ◌∙◌, subst, arith, inl, inr, replicate}
 use Rattle.std.specs.Prelude.{slice_get, filter, sum_by}
 use Rattle.std.specs.List.{AllByRecursion}
-use Rattle.std.proofs.lemmas.Bool.{cond-true, cond-false, cases_order, eq-eqb, ne_eqb, lt-ltb, le-ltb}
+use Rattle.std.proofs.lemmas.Bool.{cond-false, cases_order, eq-eqb, ne_eqb, lt-ltb, le-ltb}
 use Rattle.std.proofs.lemmas.List.{take_all, get_or-replicate}
 use Rattle.std.proofs.lemmas.List.Sums.{sum_by-cons, sum_by-append}
 use Rattle.std.proofs.lemmas.Option.{slice_get_within}
@@ -13,78 +13,9 @@ use Rattle.ttx_plan.specs.Blocks.{Block, round_of, packets_in}
 use Rattle.ttx_plan.specs.Ranges.{IsOften}
 use Rattle.ttx_plan.specs.Spread.{earlier, packets_so_far, IsSpread}
 use Rattle.ttx_plan.specs.Spreading.{IsSpreadTo, AreCounted}
+use Rattle.ttx_plan.proofs.OftenNumbers.{at_most_half}
+use Rattle.ttx_plan.proofs.RepeatedBlocks.{sum_filter}
 use Rattle.ttx_plan.proofs.SpreadPlaces.{weight}
-
--- 1, 2, 4 and 8
-
-often_cases : (n : ℕ) → IsOften n → ((n ≡ 1) ⊎ (n ≡ 2)) ⊎ ((n ≡ 4) ⊎ (n ≡ 8))
-often_cases zero o = absurd (omega (arith, o.some))
-often_cases (suc zero) o = inl (inl refl)
-often_cases (suc (suc zero)) o = inl (inr refl)
-often_cases (suc (suc (suc zero))) o = let e : 2 ≡ 0 = o.divides in absurd (omega (arith, e))
-often_cases (suc (suc (suc (suc zero)))) o = inr (inl refl)
-often_cases (suc (suc (suc (suc (suc zero))))) o = let e : 3 ≡ 0 = o.divides in absurd (omega (arith, e))
-often_cases (suc (suc (suc (suc (suc (suc zero)))))) o = let e : 2 ≡ 0 = o.divides in absurd (omega (arith, e))
-often_cases (suc (suc (suc (suc (suc (suc (suc zero))))))) o = let e : 1 ≡ 0 = o.divides in absurd (omega (arith, e))
-often_cases (suc (suc (suc (suc (suc (suc (suc (suc zero)))))))) o = inr (inr refl)
-often_cases (suc (suc (suc (suc (suc (suc (suc (suc (suc n))))))))) o = absurd (omega (arith, o.most))
-
-half_of : (n k : ℕ) → n ≡ k → n / 2 ≡ k / 2
-half_of n k e = ap (λ m. m / 2) e
-
--- what is sent less often is sent at most half as often
-pub at_most_half : (n m : ℕ) → IsOften n → IsOften m → m < n → m ≤ n / 2
-at_most_half n m o p lt = by (often_cases n o) (often_cases m p)
-  where
-    by : ((n ≡ 1) ⊎ (n ≡ 2)) ⊎ ((n ≡ 4) ⊎ (n ≡ 8)) → ((m ≡ 1) ⊎ (m ≡ 2)) ⊎ ((m ≡ 4) ⊎ (m ≡ 8)) → m ≤ n / 2
-    by (inl (inl e)) (inl (inl f)) = absurd (omega (arith, lt, e, f))
-    by (inl (inl e)) (inl (inr f)) = absurd (omega (arith, lt, e, f))
-    by (inl (inl e)) (inr (inl f)) = absurd (omega (arith, lt, e, f))
-    by (inl (inl e)) (inr (inr f)) = absurd (omega (arith, lt, e, f))
-    by (inl (inr e)) (inl (inl f)) = let h : n / 2 ≡ 1 = half_of n 2 e in omega (arith, h, f)
-    by (inl (inr e)) (inl (inr f)) = absurd (omega (arith, lt, e, f))
-    by (inl (inr e)) (inr (inl f)) = absurd (omega (arith, lt, e, f))
-    by (inl (inr e)) (inr (inr f)) = absurd (omega (arith, lt, e, f))
-    by (inr (inl e)) (inl (inl f)) = let h : n / 2 ≡ 2 = half_of n 4 e in omega (arith, h, f)
-    by (inr (inl e)) (inl (inr f)) = let h : n / 2 ≡ 2 = half_of n 4 e in omega (arith, h, f)
-    by (inr (inl e)) (inr (inl f)) = absurd (omega (arith, lt, e, f))
-    by (inr (inl e)) (inr (inr f)) = absurd (omega (arith, lt, e, f))
-    by (inr (inr e)) (inl (inl f)) = let h : n / 2 ≡ 4 = half_of n 8 e in omega (arith, h, f)
-    by (inr (inr e)) (inl (inr f)) = let h : n / 2 ≡ 4 = half_of n 8 e in omega (arith, h, f)
-    by (inr (inr e)) (inr (inl f)) = let h : n / 2 ≡ 4 = half_of n 8 e in omega (arith, h, f)
-    by (inr (inr e)) (inr (inr f)) = absurd (omega (arith, lt, e, f))
-
--- the next pass: half as often, or the last one
-pub half_again : (n : ℕ) → IsOften n → (n / 2 ≡ 0) ⊎ IsOften (n / 2)
-half_again n o = by (often_cases n o)
-  where
-    once : IsOften 1
-    once = record { some = omega arith; most = omega arith; divides = refl }
-
-    twice : IsOften 2
-    twice = record { some = omega arith; most = omega arith; divides = refl }
-
-    four : IsOften 4
-    four = record { some = omega arith; most = omega arith; divides = refl }
-
-    by : ((n ≡ 1) ⊎ (n ≡ 2)) ⊎ ((n ≡ 4) ⊎ (n ≡ 8)) → (n / 2 ≡ 0) ⊎ IsOften (n / 2)
-    by (inl (inl e)) = inl (half_of n 1 e)
-    by (inl (inr e)) = inr (subst IsOften (sym (half_of n 2 e)) once)
-    by (inr (inl e)) = inr (subst IsOften (sym (half_of n 4 e)) twice)
-    by (inr (inr e)) = inr (subst IsOften (sym (half_of n 8 e)) four)
-
--- the number of rounds from which a page takes its place
-pub period_range : (n : ℕ) → IsOften n → (1 ≤ 8 / n) × (8 / n ≤ 8)
-period_range n o = by (often_cases n o)
-  where
-    period_of : (k : ℕ) → n ≡ k → 8 / n ≡ 8 / k
-    period_of k e = ap (λ m. 8 / m) e
-
-    by : ((n ≡ 1) ⊎ (n ≡ 2)) ⊎ ((n ≡ 4) ⊎ (n ≡ 8)) → (1 ≤ 8 / n) × (8 / n ≤ 8)
-    by (inl (inl e)) = let h : 8 / n ≡ 8 = period_of 1 e in (omega (arith, h), omega (arith, h))
-    by (inl (inr e)) = let h : 8 / n ≡ 4 = period_of 2 e in (omega (arith, h), omega (arith, h))
-    by (inr (inl e)) = let h : 8 / n ≡ 2 = period_of 4 e in (omega (arith, h), omega (arith, h))
-    by (inr (inr e)) = let h : 8 / n ≡ 1 = period_of 8 e in (omega (arith, h), omega (arith, h))
 
 -- sums over the elements that pass a test
 
@@ -94,22 +25,13 @@ IsOftenBlock block = IsOften block.often
 abbrev weighed : ℕ → Block → ℕ
 weighed round block = cond (eqb (round % (8 / block.often)) block.place) (weight block) 0
 
-sum_passed : (f : Block → ℕ) (test : Block → Bool) (xs : List Block) → sum_by f (filter test xs) ≡ sum_by (λ b. cond (test b) (f b) 0) xs
-sum_passed f test [] = refl
-sum_passed f test (x ∷ xs) = by (test x) (sum_passed f test xs) ∙ sym (sum_by-cons (λ b. cond (test b) (f b) 0) x xs)
-  where
-    by : (b : Bool) → sum_by f (filter test xs) ≡ sum_by (λ b. cond (test b) (f b) 0) xs →
-        sum_by f (cond b (x ∷ filter test xs) (filter test xs)) ≡ cond b (f x) 0 + sum_by (λ b. cond (test b) (f b) 0) xs
-    by true rest = sum_by-cons f x (filter test xs) ∙ ap (λ n. f x + n) rest
-    by false rest = omega (arith, rest)
-
 -- where each element passes the first test as often as the other two together
 sum_split : (f : Block → ℕ) (p q s : Block → Bool) (xs : List Block) →
     AllByRecursion (λ b. cond (p b) (f b) 0 ≡ cond (q b) (f b) 0 + cond (s b) (f b) 0) xs →
     sum_by f (filter p xs) ≡ sum_by f (filter q xs) + sum_by f (filter s xs)
 sum_split f p q s xs a =
-    sum_passed f p xs ∙ parts xs a ∙ ap (λ n. n + sum_by (λ b. cond (s b) (f b) 0) xs) (sym (sum_passed f q xs))
-    ∙ ap (λ n. sum_by f (filter q xs) + n) (sym (sum_passed f s xs))
+    sum_filter f p xs ∙ parts xs a ∙ ap (λ n. n + sum_by (λ b. cond (s b) (f b) 0) xs) (sym (sum_filter f q xs))
+    ∙ ap (λ n. sum_by f (filter q xs) + n) (sym (sum_filter f s xs))
   where
     parts : (ys : List Block) → AllByRecursion (λ b. cond (p b) (f b) 0 ≡ cond (q b) (f b) 0 + cond (s b) (f b) 0) ys →
         sum_by (λ b. cond (p b) (f b) 0) ys ≡ sum_by (λ b. cond (q b) (f b) 0) ys + sum_by (λ b. cond (s b) (f b) 0) ys
@@ -131,22 +53,14 @@ split_here : (often n w : ℕ) → IsOften often → IsOften n →
     cond (ltb (often / 2) n) w 0 ≡ cond (ltb often n) w 0 + cond (eqb n often) w 0
 split_here often n w o p = elim (cases_order often n) [
   | inl same ↦
-      let a = cond-true (ltb (often / 2) n) w 0 (lt-ltb (often / 2) n (omega (arith, same, o.some))) in
-      let b = cond-false (ltb often n) w 0 (le-ltb often n (omega (arith, same))) in
-      let c = cond-true (eqb n often) w 0 (eq-eqb n often (sym same)) in
-      omega (arith, a, b, c)
+      rw (lt-ltb (often / 2) n (omega (arith, same, o.some)), le-ltb often n (omega (arith, same)), eq-eqb n often (sym same)) (omega arith)
   | inr apart ↦ elim apart [
     | inl more ↦
-        let a = cond-true (ltb (often / 2) n) w 0 (lt-ltb (often / 2) n (omega (arith, more))) in
-        let b = cond-true (ltb often n) w 0 (lt-ltb often n more) in
-        let c = cond-false (eqb n often) w 0 (ne_eqb n often (λ (e : n ≡ often). omega (arith, e, more))) in
-        omega (arith, a, b, c)
+        let other : eqb n often ≡ false = ne_eqb n often (λ (e : n ≡ often). omega (arith, e, more)) in
+        rw (lt-ltb (often / 2) n (omega (arith, more)), lt-ltb often n more, other) (omega arith)
     | inr less ↦
-        let half : n ≤ often / 2 = at_most_half often n o p less in
-        let a = cond-false (ltb (often / 2) n) w 0 (le-ltb (often / 2) n half) in
-        let b = cond-false (ltb often n) w 0 (le-ltb often n (omega (arith, less))) in
-        let c = cond-false (eqb n often) w 0 (ne_eqb n often (λ (e : n ≡ often). omega (arith, e, less))) in
-        omega (arith, a, b, c)
+        let other : eqb n often ≡ false = ne_eqb n often (λ (e : n ≡ often). omega (arith, e, less)) in
+        rw (le-ltb (often / 2) n (at_most_half often n o p less), le-ltb often n (omega (arith, less)), other)
   ]
 ]
 
@@ -160,7 +74,7 @@ all_split round often (b ∷ blocks) o a = (split_here often b.often (weighed ro
 counted_in : (blocks : List Block) (often n round : ℕ) → packets_so_far blocks often n round
     ≡ sum_by (weighed round) (filter (λ b. ltb often b.often) blocks) + sum_by (weighed round) (filter (λ b. eqb b.often often) (take n blocks))
 counted_in blocks often n round =
-    sum_passed weight (λ b. eqb (round % (8 / b.often)) b.place) (earlier blocks often n)
+    sum_filter weight (λ b. eqb (round % (8 / b.often)) b.place) (earlier blocks often n)
     ∙ sum_by-append (weighed round) (filter (λ b. ltb often b.often) blocks) (filter (λ b. eqb b.often often) (take n blocks))
 
 -- the passes
@@ -179,12 +93,6 @@ counted_pass packets blocks often n o a size counted = record {
       ∙ ap (λ xs. sum_by (weighed round) (filter (λ b. ltb often b.often) blocks) + sum_by (weighed round) (filter (λ b. eqb b.often often) xs)) whole
       ∙ sym split ∙ sym none ∙ sym (counted_in blocks (often / 2) 0 round);
 }
-
-pub often_of : (blocks : List Block) (k : ℕ) (block : Block) → AllByRecursion IsOftenBlock blocks → slice_get blocks k ≡ Some block →
-    IsOften block.often
-often_of [] k block a e = let f : None ≡ Some block = e in cc
-often_of (b ∷ blocks) zero block a e = let f : Some b ≡ Some block = e in let g : b ≡ block = cc in subst IsOftenBlock g a.0
-often_of (b ∷ blocks) (suc k) block a e = often_of blocks k block a.1 e
 
 -- each page is sent 1, 2, 4 or 8 times
 abbrev pub AreOften : List Authored → Type 0

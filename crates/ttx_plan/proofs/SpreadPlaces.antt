@@ -1,9 +1,9 @@
 -- Blocks that take their places one after another: what each place changes, and what it does not change.
-use Rattle.std.proofs.Common.{◌≡◌, ◌⊎◌, ℕ, zero, suc, ◌+◌, ◌/◌, ◌%◌, ◌<◌, ◌≤◌, Bool, true, false, cond, eqb, ltb, ◌&&◌, ◌||◌}
+use Rattle.std.proofs.Common.{◌≡◌, ℕ, zero, suc, ◌+◌, ◌/◌, ◌%◌, ◌<◌, Bool, true, false, cond, eqb, ltb}
 use Rattle.std.proofs.Common.{List, [], ◌∷◌, ◌++◌, length, set, take}
-use Rattle.std.proofs.Common.{get_or, Some, None, refl, sym, ap, ◌∙◌, subst, arith, inl, inr}
+use Rattle.std.proofs.Common.{get_or, Some, refl, sym, ap, ◌∙◌, subst, arith, inl, inr}
 use Rattle.std.specs.Prelude.{slice_get, filter, sum_by}
-use Rattle.std.proofs.lemmas.Bool.{cond-true, cond-false, cases_eq, eq-eqb, ne_eqb, le-ltb}
+use Rattle.std.proofs.lemmas.Bool.{cond-false, cases_eq, eq-eqb, ne_eqb, le-ltb, or_from, and_left, and_right, both_ways}
 use Rattle.std.proofs.lemmas.List.{append-nil, append_assoc, take_more_set, get_or-set_same, get_or-set_other}
 use Rattle.std.proofs.lemmas.List.Elements.{filter-append, filter_more}
 use Rattle.std.proofs.lemmas.List.Sums.{sum_by-cons, sum_by-append}
@@ -35,18 +35,6 @@ weight block = cond block.filler 1 0 + (length block.rest + 1)
 one : {A : Type 0} (x y : A) → Some x ≡ Some y → x ≡ y
 one x y e = cc
 
-get_set : {A : Type 0} (xs : List A) (n : ℕ) (x y : A) → slice_get (set xs n y) n ≡ Some x → x ≡ y
-get_set [] n x y e = let f : None ≡ Some x = e in cc
-get_set (z ∷ xs) zero x y e = sym (one y x e)
-get_set (z ∷ xs) (suc n) x y e = get_set xs n x y e
-
-get_other : {A : Type 0} (xs : List A) (n k : ℕ) (y : A) → (k ≡ n → ⊥) → slice_get (set xs n y) k ≡ slice_get xs k
-get_other [] n k y ne = refl
-get_other (z ∷ xs) zero zero y ne = absurd (ne refl)
-get_other (z ∷ xs) zero (suc k) y ne = refl
-get_other (z ∷ xs) (suc n) zero y ne = refl
-get_other (z ∷ xs) (suc n) (suc k) y ne = get_other xs n k y (λ e. ne (ap suc e))
-
 -- a filter that passes neither the old element nor the new one
 filter_set : (test : Block → Bool) (xs : List Block) (n : ℕ) (x y : Block) → slice_get xs n ≡ Some x → test x ≡ false → test y ≡ false →
     filter test (set xs n y) ≡ filter test xs
@@ -74,66 +62,41 @@ filter_take_set test (suc m) (z ∷ xs) (suc n) x y e old new =
 earlier_more : (blocks : List Block) (n place : ℕ) (block : Block) → slice_get blocks n ≡ Some block →
     earlier (set blocks n (at_place place block)) block.often (n + 1) ≡ earlier blocks block.often n ++ at_place place block ∷ []
 earlier_more blocks n place block e =
-    let new = at_place place block in
-    let often = block.often in
     let less : ltb block.often block.often ≡ false = le-ltb block.often block.often (omega arith) in
-    ap (λ xs. xs ++ filter (is_as block.often) (take (n + 1) (set blocks n (at_place place block))))
-    (filter_set (is_more block.often) blocks n block (at_place place block) e less less)
-    ∙ ap (λ xs. filter (is_more block.often) blocks ++ filter (is_as block.often) xs)
-    (take_more_set blocks n (at_place place block) (slice_get_within blocks n block e))
-    ∙ ap (λ xs. filter (is_more block.often) blocks ++ xs)
-    (filter-append (is_as block.often) (take n blocks) (at_place place block ∷ [])
-    ∙ ap (λ xs. filter (is_as block.often) (take n blocks) ++ xs)
-    (cond-true (eqb block.often block.often) (at_place place block ∷ []) [] (eq-eqb block.often block.often refl)))
-    ∙ sym (append_assoc (filter (is_more block.often) blocks) (filter (is_as block.often) (take n blocks)) (at_place place block ∷ []))
+    rw (
+      filter_set (is_more block.often) blocks n block (at_place place block) e less less,
+      take_more_set blocks n (at_place place block) (slice_get_within blocks n block e),
+    )
+    (rw (filter-append, eq-eqb block.often block.often refl)
+    (sym (append_assoc (filter (is_more block.often) blocks) (filter (is_as block.often) (take n blocks)) (at_place place block ∷ []))))
 
 -- a block that is sent more or less often is skipped
 earlier_else : (blocks : List Block) (n : ℕ) (block : Block) (often : ℕ) → slice_get blocks n ≡ Some block → eqb block.often often ≡ false →
     earlier blocks often (n + 1) ≡ earlier blocks often n
 earlier_else blocks n block often e other =
-    let here : get_or blocks n block ≡ block = get_or_from_slice_get blocks n block block e in
-    ap (λ xs. filter (is_more often) blocks ++ xs)
-    (filter_more (is_as often) blocks n block (slice_get_within blocks n block e)
-    ∙ ap (λ xs. filter (is_as often) (take n blocks) ++ xs)
-    (cond-false (is_as often (get_or blocks n block)) (get_or blocks n block ∷ []) [] (ap (is_as often) here ∙ other))
-    ∙ append-nil (filter (is_as often) (take n blocks)))
+    rw (filter_more (is_as often) blocks n block (slice_get_within blocks n block e), get_or_from_slice_get blocks n block block e, other, append-nil)
 
 -- the packets of a round
 
 packets_more : (xs : List Block) (block : Block) (round : ℕ) → packets_in (round_of (xs ++ block ∷ []) round)
     ≡ packets_in (round_of xs round) + cond (stands round block) (weight block) 0
-packets_more xs block round =
-    ap packets_in (filter-append (stands round) xs (block ∷ []))
-    ∙ sum_by-append weight (round_of xs round) (filter (stands round) (block ∷ []))
-    ∙ ap (λ n. packets_in (round_of xs round) + n) (last (stands round block))
+packets_more xs block round = rw (filter-append, sum_by-append weight, last (stands round block))
   where
     last : (b : Bool) → sum_by weight (cond b (block ∷ []) []) ≡ cond b (weight block) 0
-    last true = let h : sum_by weight (block ∷ []) ≡ weight block + sum_by weight [] = sum_by-cons weight block [] in
-        let z : sum_by weight [] ≡ 0 = refl in omega (arith, h, z)
+    last true = rw (sum_by-cons weight) (omega arith)
     last false = refl
 
-pub first_least_same : (f g : ℕ → ℕ) (count number : ℕ) → count ≤ 8 → ((round : ℕ) → round < 8 → f round ≡ g round) →
-    IsFirstLeast f count number → IsFirstLeast g count number
-first_least_same f g count number few same l =
-    let here : f number ≡ g number = same number (omega (arith, l.within)) in
+pub first_least_same : (f g : ℕ → ℕ) (count number : ℕ) → ((round : ℕ) → round < count → f round ≡ g round) → IsFirstLeast f count number →
+    IsFirstLeast g count number
+first_least_same f g count number same l =
+    let here : f number ≡ g number = same number l.within in
     record {
       within = l.within;
-      least = λ other lt. let there : f other ≡ g other = same other (omega (arith, lt, few)) in omega (arith, here, there, l.least other lt);
-      first = λ other lt. let there : f other ≡ g other = same other (omega (arith, lt, few, l.within)) in
-          omega (arith, here, there, l.first other lt);
+      least = λ other lt. let there : f other ≡ g other = same other lt in omega (arith, here, there, l.least other lt);
+      first = λ other lt. let there : f other ≡ g other = same other (omega (arith, lt, l.within)) in omega (arith, here, there, l.first other lt);
     }
 
 -- a page takes its place
-
-pub first_least_each : (f g : ℕ → ℕ) (count number : ℕ) → ((round : ℕ) → f round ≡ g round) → IsFirstLeast f count number →
-    IsFirstLeast g count number
-first_least_each f g count number same l =
-    let here : f number ≡ g number = same number in
-    record {
-      within = l.within;
-      least = λ other lt. let there : f other ≡ g other = same other in omega (arith, here, there, l.least other lt);
-      first = λ other lt. let there : f other ≡ g other = same other in omega (arith, here, there, l.first other lt);
-    }
 
 -- a place of the page at n does not matter to a page that takes its place before, nor to the page itself
 agree_set : (pages : List Authored) (places : List ℕ) (n place : ℕ) (page : Authored) (at : ℕ) (p : Authored) → slice_get pages n ≡ Some page →
@@ -142,24 +105,17 @@ agree_set pages places n place page at p e not_before = λ k q there before. eli
   | inl same ↦
       let is : Some q ≡ Some page = sym there ∙ ap (slice_get pages) same ∙ e in
       let q_is : q ≡ page = cc in
-      let both : true ≡ false = sym before ∙ ap (λ i. comes_before at p i q) same ∙ ap (comes_before at p n) q_is ∙ not_before in
-      cc
+      absurd (both_ways _ (ap (λ i. comes_before at p i q) same ∙ ap (comes_before at p n) q_is ∙ not_before) before)
   | inr apart ↦ get_or-set_other places n k place 0 apart
 ]
-
-not_before : (a b c : Bool) → a ≡ false → (b ≡ false) ⊎ (c ≡ false) → (a || (b && c)) ≡ false
-not_before true b c e h = cc
-not_before false true c e (inl f) = cc
-not_before false true c e (inr f) = f
-not_before false false c e h = refl
 
 kept_place : (class : Class) (pages : List Authored) (places : List ℕ) (n place : ℕ) (page : Authored) (at : ℕ) (p : Authored) →
     slice_get pages n ≡ Some page → slice_get pages at ≡ Some p → (at ≡ n → ⊥) → comes_before at p n page ≡ false →
     IsAtPlace class pages places at p → IsAtPlace class pages (set places n place) at p
 kept_place class pages places n place page at p e there apart before spread =
     subst (IsFirstLeast (burden_so_far class pages (set places n place) at p) (8 / p.often)) (sym (get_or-set_other places n at place 0 apart))
-    (first_least_each (burden_so_far class pages places at p) (burden_so_far class pages (set places n place) at p) (8 / p.often) (get_or places at 0)
-    (λ round. sym (burden_alike class pages (set places n place) places at p round there (agree_set pages places n place page at p e before)))
+    (first_least_same (burden_so_far class pages places at p) (burden_so_far class pages (set places n place) at p) (8 / p.often) (get_or places at 0)
+    (λ round lt. sym (burden_alike class pages (set places n place) places at p round there (agree_set pages places n place page at p e before)))
     spread)
 
 pub spread_more : (class : Class) (pages : List Authored) (places : List ℕ) (n place : ℕ) (page : Authored) → n < length places →
@@ -172,27 +128,25 @@ spread_more class pages places n place page within e least spread = record {
       let p_is : p ≡ page = cc in
       absurd (omega (arith, lt, ap (λ (x : Authored). x.often) p_is)) in
       kept_place class pages places n place page at p e there apart
-      (not_before (ltb p.often page.often) (eqb page.often p.often) (ltb n at) (le-ltb p.often page.often (omega (arith, lt)))
-      (inl (ne_eqb page.often p.often (λ (eq : page.often ≡ p.often). omega (arith, lt, eq)))))
+      (or_from _ _ (le-ltb p.often page.often (omega (arith, lt)))
+      (and_left _ (ltb n at) (ne_eqb page.often p.often (λ (eq : page.often ≡ p.often). omega (arith, lt, eq)))))
       (spread.more at p there lt);
   same = λ at p there often lt. elim (cases_eq at n) [
     | inl same ↦
         let is : Some page ≡ Some p = sym e ∙ ap (slice_get pages) (sym same) ∙ there in
         let p_is : page ≡ p = cc in
         let before : comes_before n page n page ≡ false =
-        not_before (ltb page.often page.often) (eqb page.often page.often) (ltb n n) (le-ltb page.often page.often (omega arith))
-        (inr (le-ltb n n (omega arith))) in
+        or_from _ _ (le-ltb page.often page.often (omega arith)) (and_right (eqb page.often page.often) _ (le-ltb n n (omega arith))) in
         let here : IsAtPlace class pages (set places n place) n page =
         subst (IsFirstLeast (burden_so_far class pages (set places n place) n page) (8 / page.often)) (sym (get_or-set_same places n place 0 within))
-        (first_least_each (burden_so_far class pages places n page) (burden_so_far class pages (set places n place) n page) (8 / page.often) place
-        (λ round. sym (burden_alike class pages (set places n place) places n page round e (agree_set pages places n place page n page e before)))
+        (first_least_same (burden_so_far class pages places n page) (burden_so_far class pages (set places n place) n page) (8 / page.often) place
+        (λ round lt. sym (burden_alike class pages (set places n place) places n page round e (agree_set pages places n place page n page e before)))
         least) in
         subst (λ k. IsAtPlace class pages (set places n place) k p) (sym same) (subst (IsAtPlace class pages (set places n place) n) p_is here)
     | inr apart ↦
         let before : at < n = omega (arith, lt, apart) in
         kept_place class pages places n place page at p e there apart
-        (not_before (ltb p.often page.often) (eqb page.often p.often) (ltb n at) (le-ltb p.often page.often (omega (arith, often)))
-        (inr (le-ltb n at (omega (arith, before)))))
+        (or_from _ _ (le-ltb p.often page.often (omega (arith, often))) (and_right (eqb page.often p.often) _ (le-ltb n at (omega (arith, before)))))
         (spread.same at p there often before)
   ];
 }

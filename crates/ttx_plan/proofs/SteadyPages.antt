@@ -1,10 +1,9 @@
 -- Each page of a planned cycle is sent unchanged.
-use Rattle.std.proofs.Common.{◌≡◌, ℕ, ◌<◌, ◌≤◌, ℤ, pos, ◌+ℤ◌, ◌<ℤ◌, Bool, true, false, not, ◌&&◌, eqb, List, [], map, length, get_or, Some, refl, sym}
-use Rattle.std.proofs.Common.{ap, ◌∙◌, subst, inl, inr, arith, mod-eq_of_lt}
+use Rattle.std.proofs.Common.{◌≡◌, ℕ, ◌<◌, ℤ, pos, ◌+ℤ◌, Bool, true, false, not, ◌&&◌, eqb, List, [], map, length, get_or, Some, refl, sym}
+use Rattle.std.proofs.Common.{ap, ◌∙◌, subst, inl, inr, arith}
 use Rattle.std.specs.Prelude.{slice_get}
 use Rattle.std.specs.List.{AllPairs}
 use Rattle.std.proofs.lemmas.Bool.{eq-eqb, eqb-true, and_parts, cases_lt, and_from}
-use Rattle.std.proofs.lemmas.Int.{ints}
 use Rattle.std.proofs.lemmas.Option.{get_or_from_slice_get, slice_get_within}
 use Rattle.ttx_code.specs.Words.{odd_byte}
 use Rattle.ttx_header.specs.Ids.{Id, id_at, same_id, is_time_filling}
@@ -13,7 +12,7 @@ use Rattle.ttx_page.specs.declared.class.Class.{Class}
 use Rattle.ttx_page.specs.declared.item.Item.{Item}
 use Rattle.ttx_page.specs.declared.item.Item.TheVariants.{Head as TheHead, Row as TheRow, Links as TheLinks}
 use Rattle.ttx_page.specs.declared.selection.Selection.TheVariants.{AnySub}
-use Rattle.ttx_page.specs.Laws.{Turn, EachSlotTurns, SteadySendsItsOwn}
+use Rattle.ttx_page.specs.Laws.{SteadySendsItsOwn}
 use Rattle.ttx_page.specs.Packets as P
 use Rattle.ttx_page.specs.Packets.{Packet, packet_of}
 use Rattle.ttx_page.specs.Pages.{Page, IsPage, IsAlone, is_other_subpage, page_row}
@@ -23,13 +22,12 @@ use Rattle.ttx_source.specs.Services.{Authored, ServiceFields, authored_ids, pag
 use Rattle.ttx_plan.specs.Acceptance.{IsPlanned, PlannedIsSteady}
 use Rattle.ttx_plan.specs.Laws.{IsHeadOf}
 use Rattle.ttx_plan.proofs.PlannedSlots.{get_map}
-use Rattle.ttx_plan.proofs.OwnLinks.{planned_links_are_own}
-use Rattle.ttx_plan.proofs.OwnRows.{planned_rows_are_own}
-use Rattle.ttx_plan.proofs.UnderHeaders.{authored_at}
-use Rattle.ttx_plan.proofs.SurePlaces.{one_latest, between}
-use Rattle.ttx_plan.proofs.Planned.{planned_headers_are_own}
-use Rattle.ttx_plan.proofs.Readable.{LawsBelow}
-use Rattle.ttx_plan.proofs.SentItems.{page_there, heads_its, planned_items_are_sent}
+use Rattle.ttx_plan.proofs.OwnRows.{planned_rows_are_own, planned_links_are_own}
+use Rattle.ttx_plan.proofs.ReadPackets.{LawsBelow}
+use Rattle.ttx_plan.proofs.RepeatedHeaders.{one_latest, slot_back, latest_here, has_header}
+use Rattle.ttx_plan.proofs.ServicePages.{authored_is, page_there}
+use Rattle.ttx_plan.proofs.UnderHeaders.{planned_headers_are_own}
+use Rattle.ttx_page.proofs.Owners.{page_heads}
 
 -- ids
 
@@ -40,15 +38,13 @@ same_is a b e =
     ap (λ m. id_at m a.page a.sub) (eqb-true a.mag b.mag one.0) ∙ ap (λ g. id_at b.mag g a.sub) (eqb-true a.page b.page one.1)
     ∙ ap (λ s. id_at b.mag b.page s) (eqb-true a.sub b.sub two.1)
 
+apart : false ≡ true → ⊥
+apart e = cc
+
 -- one header has one id
 pub one_id : (a b : Id) (x : Packet) → heads_page a x ≡ true → heads_page b x ≡ true → a ≡ b
-one_id a b P.Empty e f = cc
-one_id a b P.Unreadable e f = cc
 one_id a b (P.Header id control text) e f = same_is a id e ∙ sym (same_is b id f)
-one_id a b (P.Row mag number text) e f = cc
-one_id a b (P.Links mag content) e f = cc
-one_id a b P.Info e f = cc
-one_id a b P.Other e f = cc
+one_id a b x e f = absurd (apart e)
 
 -- a page of a service by its id
 pub one_page : (pages : List Authored) → AllPairs (λ a b. a ≡ b → ⊥) (authored_ids pages) → (i j : ℕ) (a b : Authored) → slice_get pages i
@@ -75,33 +71,11 @@ one_page pages distinct i j a b e f same = elim (cases_lt i j) as (λ _. a ≡ b
 not_filling : (p : Page) → IsPage p → is_time_filling p.id ≡ true → ⊥
 not_filling p is e = is.page (eqb-true p.id.page 255 (and_parts (eqb p.id.page 255) (eqb p.id.sub 16255) e).0)
 
--- the header of a slot
-
-latest_here : EachSlotTurns → (cycle : List (List ℕ)) (mag : ℕ) (j : ℤ) → 1 ≤ length cycle → (t : Turn (length cycle) j) (header : ℕ) →
-    header < turned (length cycle) j → heads mag (packet_of (get_or cycle header [])) ≡ true →
-    ((i : ℕ) → header < i → i < turned (length cycle) j → heads mag (packet_of (get_or cycle i [])) ≡ false) →
-    IsLatestHeader (repeated cycle) mag (pos header +ℤ t.by) j × (repeated cycle (pos header +ℤ t.by) ≡ get_or cycle header [])
-latest_here turns cycle mag j some t header lt is none =
-    let inside : turned (length cycle) j < length cycle = t.inside in (
-      record {
-        earlier = omega (arith, ints, t.place, lt);
-        is_header = ap (λ x. heads mag (packet_of x)) (at header (omega (arith, inside))) ∙ is;
-        none_between = λ i low high.
-            let k = between t.by i header (turned (length cycle) j) low (subst (λ x. i <ℤ x) t.place high) in
-            ap (λ x. heads mag (packet_of (repeated cycle x))) k.1
-            ∙ ap (λ x. heads mag (packet_of x)) (at k.0 (omega (arith, k.3, inside))) ∙ none k.0 k.2 k.3;
-      },
-      at header (omega (arith, inside)),
-    )
-  where
-    at : (k : ℕ) → k < length cycle → repeated cycle (pos k +ℤ t.by) ≡ get_or cycle k []
-    at k lt = ap (λ x. get_or cycle x []) (t.same (pos k) ∙ mod-eq_of_lt lt)
-
 module _ (laws : LawsBelow) (written : WrittenLinksAreRead) (late : Bool) (class : Class) (service : ServiceFields)
     (cycle : List (List ℕ)) (c : IsPlanned late class service cycle)
     (n : ℕ) (own : Authored) (listed : slice_get service.pages n ≡ Some own) where
   is_page : IsPage own.page
-  is_page = (authored_at service.serial service.pages c.service_is.pages n own listed).page
+  is_page = (authored_is service.serial service.pages c.service_is.pages n own listed).page
 
   inside : (j : ℤ) → turned (length cycle) j < length cycle
   inside j = (laws.turn (length cycle) j c.some).inside
@@ -117,11 +91,11 @@ module _ (laws : LawsBelow) (written : WrittenLinksAreRead) (late : Bool) (class
       ((k : ℕ) → header < k → k < turned (length cycle) j → heads own.page.id.mag (packet_of (get_or cycle k [])) ≡ false) → other ≡ own
   under_own h j latest is header lt i other at page mag none =
       let t = laws.turn (length cycle) j c.some in
-      let l = latest_here laws.turn cycle own.page.id.mag j c.some t header lt
-      (ap (λ m. heads m (packet_of (get_or cycle header []))) mag
-      ∙ heads_its other.page.id (packet_of (get_or cycle header [])) page) none in
-      let e : h ≡ pos header +ℤ t.by = one_latest (repeated cycle) own.page.id.mag h (pos header +ℤ t.by) j latest l.0 in
-      let slot : repeated cycle h ≡ get_or cycle header [] = ap (repeated cycle) e ∙ l.1 in
+      let l = latest_here cycle own.page.id.mag j t header lt (ap (λ m. heads m (packet_of (get_or cycle header []))) mag
+      ∙ page_heads other.page.id (packet_of (get_or cycle header [])) page) none in
+      let slot : repeated cycle h ≡ get_or cycle header [] =
+      ap (repeated cycle) (one_latest (repeated cycle) own.page.id.mag h (pos header +ℤ t.by) j latest l)
+      ∙ slot_back cycle t.by t.same header (omega (arith, lt, t.inside)) in
       same_page i other at (one_id own.page.id other.page.id (packet_of (get_or cycle header []))
       (ap (λ x. heads_page own.page.id (packet_of x)) (sym slot) ∙ is) page)
 
@@ -156,15 +130,10 @@ module _ (laws : LawsBelow) (written : WrittenLinksAreRead) (late : Bool) (class
     where
       by : (x : Packet) → packet_of (repeated cycle j) ≡ x → heads_matched (AnySub own.page.id.mag own.page.id.page) x ≡ true →
           heads_page own.page.id x ≡ true
-      by P.Empty e m = m
-      by P.Unreadable e m = m
       by (P.Header id control text) e m = sub_own alone id control text
           (planned_headers_are_own laws c.places late class service cycle c.service_is c.said c.carries (turned (length cycle) j)
           (inside j) id control text e) m
-      by (P.Row mag number text) e m = m
-      by (P.Links mag content) e m = m
-      by P.Info e m = m
-      by P.Other e m = m
+      by x e m = m
 
   head_own : (id : Id) (control : ℕ) (text : List ℕ) → IsHeadOf service.pages id control text → same_id own.page.id id ≡ true →
       HeadIsRight own.page (P.Header id control text)
@@ -175,22 +144,14 @@ module _ (laws : LawsBelow) (written : WrittenLinksAreRead) (late : Bool) (class
       (h.control_is ∙ ap (λ a. a.page.control) same, h.text_is ∙ ap (λ a. map odd_byte a.page.head) same)
 
   true_head : (j : ℤ) (x : Packet) → packet_of (repeated cycle j) ≡ x → heads_page own.page.id x ≡ true → HeadIsRight own.page x
-  true_head j P.Empty e h = cc
-  true_head j P.Unreadable e h = cc
   true_head j (P.Header id control text) e h = head_own id control text
       (planned_headers_are_own laws c.places late class service cycle c.service_is c.said c.carries (turned (length cycle) j)
       (inside j) id control text e) h
-  true_head j (P.Row mag number text) e h = cc
-  true_head j (P.Links mag content) e h = cc
-  true_head j P.Info e h = cc
-  true_head j P.Other e h = cc
+  true_head j x e h = absurd (apart h)
 
   true_row : (r : ℕ) (h j : ℤ) → IsLatestHeader (repeated cycle) own.page.id.mag h j →
       heads_page own.page.id (packet_of (repeated cycle h)) ≡ true → (x : Packet) → packet_of (repeated cycle j) ≡ x →
       carries own.page.id.mag (TheRow r) x ≡ true → RowIsRight own.page r x
-  true_row r h j latest is P.Empty e k = cc
-  true_row r h j latest is P.Unreadable e k = cc
-  true_row r h j latest is (P.Header id control text) e k = cc
   true_row r h j latest is (P.Row mag number text) e k =
       let two = and_parts (eqb mag own.page.id.mag) (eqb number r) k in
       let mags : mag ≡ own.page.id.mag = eqb-true mag own.page.id.mag two.0 in
@@ -201,17 +162,11 @@ module _ (laws : LawsBelow) (written : WrittenLinksAreRead) (late : Bool) (class
       (sym mags ∙ u.mag_is) (λ i low high. ap (λ m. heads m (packet_of (get_or cycle i []))) (sym mags)
       ∙ u.none_between i low high) in
       u.text_is ∙ ap (λ a. map odd_byte (page_row a.page number)) same ∙ ap (λ k. map odd_byte (page_row own.page k)) numbers
-  true_row r h j latest is (P.Links mag content) e k = cc
-  true_row r h j latest is P.Info e k = cc
-  true_row r h j latest is P.Other e k = cc
+  true_row r h j latest is x e k = absurd (apart k)
 
   true_links : (h j : ℤ) → IsLatestHeader (repeated cycle) own.page.id.mag h j → heads_page own.page.id (packet_of (repeated cycle h))
       ≡ true → (x : Packet) → packet_of (repeated cycle j) ≡ x → carries own.page.id.mag TheLinks x ≡ true →
       LinksAreRight own.page (repeated cycle j) x
-  true_links h j latest is P.Empty e k = cc
-  true_links h j latest is P.Unreadable e k = cc
-  true_links h j latest is (P.Header id control text) e k = cc
-  true_links h j latest is (P.Row mag number text) e k = cc
   true_links h j latest is (P.Links mag content) e k =
       let mags : mag ≡ own.page.id.mag = eqb-true mag own.page.id.mag k in
       let u = planned_links_are_own laws written late class service cycle c (turned (length cycle) j) (inside j) mag content e in
@@ -219,8 +174,7 @@ module _ (laws : LawsBelow) (written : WrittenLinksAreRead) (late : Bool) (class
       (sym mags ∙ u.mag_is) (λ i low high. ap (λ m. heads m (packet_of (get_or cycle i []))) (sym mags)
       ∙ u.none_between i low high) in
       (u.exact, u.content_is ∙ ap (λ a. Some a.page.links) same)
-  true_links h j latest is P.Info e k = cc
-  true_links h j latest is P.Other e k = cc
+  true_links h j latest is x e k = absurd (apart k)
 
   all_true : (item : Item) → IsChecked own.page item → (h j : ℤ) → IsOwned (repeated cycle) own.page.id item h j →
       IsTrueTo own.page item (repeated cycle j)
@@ -230,8 +184,8 @@ module _ (laws : LawsBelow) (written : WrittenLinksAreRead) (late : Bool) (class
 
   pub steady_page : SteadySendsItsOwn → Steady (repeated cycle) (pages_of service) own.page
   steady_page law =
-      let sent = planned_items_are_sent laws written late class service cycle c n own.page (get_map (λ a. a.page) service.pages n own listed) in
-      (law (repeated cycle) (pages_of service) own.page is_page).1 (record { header = sent.header; only_subpage = only_subpage; items = all_true })
+      let header = has_header laws late class service cycle c n own listed in
+      (law (repeated cycle) (pages_of service) own.page is_page).1 (record { header = header; only_subpage = only_subpage; items = all_true })
 
 pub planned_is_steady : LawsBelow → WrittenLinksAreRead → SteadySendsItsOwn → PlannedIsSteady
 planned_is_steady laws written law late class service cycle c n p e =

@@ -1,16 +1,14 @@
 -- Pages by their index, and how many of a list pass a test.
-use Rattle.std.proofs.Common.{◌≡◌, ℕ, zero, suc, ◌+◌, ◌<◌, ◌≤◌, Bool, true, false, cond, eqb, ◌&&◌, List, [], ◌∷◌, length, map, take, replicate}
-use Rattle.std.proofs.Common.{Option, Some, None, refl, sym, ap, ◌∙◌, arith, get_or}
-use Rattle.std.specs.Prelude.{slice_get, option_map}
+use Rattle.std.proofs.Common.{add-one}
+use Rattle.std.proofs.Common.{◌≡◌, ℕ, zero, suc, ◌+◌, ◌<◌, ◌≤◌, Bool, true, false, cond, eqb, ◌&&◌, List, [], ◌∷◌, length, take, replicate}
+use Rattle.std.proofs.Common.{Some, None, refl, sym, ap, ◌∙◌, arith, get_or}
+use Rattle.std.specs.Prelude.{slice_get}
 use Rattle.std.specs.List.{count_by, position_or_len}
 use Rattle.std.proofs.lemmas.Bool.{cond-true, eq-eqb}
 use Rattle.std.proofs.lemmas.List.Sums.{sum_by-cons, sum_by-append, position_or_len_is}
 use Rattle.std.proofs.lemmas.Option.{slice_get_within, get_or_from_slice_get}
 use Rattle.std.proofs.lemmas.List.{take_all}
 use mir.Val.{bool_byte}
-use Rattle.ttx_page.specs.declared.page.Page.{Page as PageValue}
-use Rattle.ttx_page.specs.Pages.{Page}
-use Rattle.ttx_page.specs.Views.{page_of}
 use Rattle.ttx_source.specs.Services.{Authored}
 use Rattle.ttx_plan.specs.SubpageTurns.{count_below, take_turns}
 use Rattle.ttx_plan.proofs.ServicePages.{take_next}
@@ -20,41 +18,16 @@ listed_at [] i lt = absurd (omega (arith, lt))
 listed_at (x ∷ xs) zero lt = (x, refl)
 listed_at (x ∷ xs) (suc i) lt = listed_at xs i (omega (arith, lt))
 
--- the id of the page at an index, as a function shows it
-id_in : {A : Type 0} (view : A → Page) (values : List A) (pages : List Authored) (i : ℕ) (value : A) → map view values
-    ≡ map (λ p. p.page) pages → slice_get values i ≡ Some value → i < length pages →
-    option_map (λ (p : Authored). p.page.id) (slice_get pages i) ≡ Some (view value).id
-id_in view [] pages i value same v lt = let e : None ≡ Some value = v in cc
-id_in view (x ∷ values) [] i value same v lt = absurd (omega (arith, lt))
-id_in view (x ∷ values) (p ∷ pages) zero value same v lt =
-    let first : Some x ≡ Some value = v in
-    let is : x ≡ value = cc in
-    let e : view x ∷ map view values ≡ p.page ∷ map (λ p. p.page) pages = same in
-    let page : view x ≡ p.page = cc in
-    ap (λ (q : Page). Some q.id) (sym page) ∙ ap (λ z. Some (view z).id) is
-id_in view (x ∷ values) (p ∷ pages) (suc i) value same v lt =
-    let e : view x ∷ map view values ≡ p.page ∷ map (λ p. p.page) pages = same in
-    let rest : map view values ≡ map (λ p. p.page) pages = cc in
-    id_in view values pages i value rest v (omega (arith, lt))
-
-pub id_there : (values : List PageValue) (pages : List Authored) (i : ℕ) (value : PageValue) → map page_of values
-    ≡ map (λ p. p.page) pages → slice_get values i ≡ Some value → i < length pages →
-    option_map (λ (p : Authored). p.page.id) (slice_get pages i) ≡ Some (page_of value).id
-id_there values pages i value same v lt = id_in page_of values pages i value same v lt
-
--- what a function shows of a listed page
-pub shown_of : {B : Type 0} (f : Authored → B) (page : Option Authored) (p : Authored) (value : B) → option_map f page ≡ Some value →
-    page ≡ Some p → f p ≡ value
-shown_of f page p value shown is = let e : Some (f p) ≡ Some value = ap (option_map f) (sym is) ∙ shown in cc
-
 -- one more element
 pub count_next : {A : Type 0} (test : A → Bool) (xs : List A) (i : ℕ) (x : A) → slice_get xs i ≡ Some x →
     count_by test (take (i + 1) xs) ≡ count_by test (take i xs) + cond (test x) 1 0
 count_next test xs i x e =
-    let n : i + 1 ≡ suc i = omega arith in
-    ap (λ k. count_by test (take k xs)) n ∙ ap (count_by test) (take_next xs i x e)
-    ∙ sum_by-append (λ y. cond (test y) 1 0) (take i xs) (x ∷ [])
-    ∙ ap (λ k. count_by test (take i xs) + k) (sum_by-cons (λ y. cond (test y) 1 0) x [] ∙ omega arith)
+    rw (
+      add-one,
+      take_next xs i x e,
+      sum_by-append (λ y. cond (test y) 1 0) (take i xs) (x ∷ []),
+      sum_by-cons (λ y. cond (test y) 1 0) x [],
+    ) (omega arith)
 
 pub count_all : {A : Type 0} (test : A → Bool) (xs : List A) (i : ℕ) → length xs ≤ i → count_by test (take i xs) ≡ count_by test xs
 count_all test xs i le = ap (count_by test) (take_all i xs le)

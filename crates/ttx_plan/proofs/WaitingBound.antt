@@ -1,20 +1,21 @@
 -- All waiting together costs at most one field for each block, so the slots stay within the length bound.
-use Rattle.std.proofs.Common.{◌≡◌, ◌≢◌, ℕ, suc, ◌+◌, ◌-◌, ◌*◌, ◌/◌, ◌%◌, ◌<◌, ◌≤◌, Bool, true, false, not, cond, List, [], ◌∷◌, length, take, drop}
-use Rattle.std.proofs.Common.{Option, Some, None, refl, sym, ap, ◌∙◌, subst, arith, inl, inr, eqb, length-append}
-use Rattle.std.specs.List.{list_any, find}
+use Rattle.std.proofs.Common.{◌≡◌, ◌≢◌, ℕ, suc, ◌+◌, ◌-◌, ◌*◌, ◌/◌, ◌%◌, ◌<◌, ◌≤◌, Bool, true, false, not, cond, List, [], ◌∷◌, length, take}
+use Rattle.std.proofs.Common.{Some, refl, sym, ap, ◌∙◌, subst, arith, inl, inr, eqb, length-append}
+use Rattle.std.specs.List.{list_any}
 use Rattle.std.proofs.lemmas.Bool.{cond-true, cond-false, cond_both, ltb-true, eqb-true, cases_eq, eq-eqb, ne_eqb, not-false, and_parts}
 use Rattle.std.proofs.Math.Nat.{div-add-mod, mul_comm}
 use Rattle.std.proofs.lemmas.Nat.{mod-mul-add}
+use Rattle.std.proofs.lemmas.Option.{slice_get_within}
 use Rattle.ttx_plan.specs.declared.packet.Packet.{Packet}
 use Rattle.ttx_plan.specs.declared.packet.Slot.{Slot}
 use Rattle.ttx_plan.specs.declared.packet.Slot.TheVariants.{Empty, Info, Sent}
 use Rattle.ttx_plan.specs.Packets.{has_header, is_page_header, is_row_or_links, sent_bytes, bytes_of}
-use Rattle.ttx_plan.specs.Turns.{Magazines, queue_of, sent_by, turn_from, order, next_of, waits, may_go, is_ready, sending, chosen, next_slot}
-use Rattle.ttx_plan.specs.Turns.{is_info_due, or_info, slot_after, KeepsTurns}
+use Rattle.ttx_plan.specs.Turns.{Magazines, queue_of, sent_by, turn_from, next_of, waits, may_go, is_ready}
+use Rattle.ttx_plan.specs.Turns.{slot_after, KeepsTurns}
 use Rattle.ttx_plan.specs.Counting.{sum_to, slots_for, left_in}
 use Rattle.ttx_plan.proofs.WaitingMagazines.{until, recent_until, until_more}
-use Rattle.ttx_plan.proofs.FirstInOrder.{found_ready, none_ready}
-use Rattle.ttx_plan.proofs.MagazineSums.{sum_le, sum_less, sum_some, drop_next, get_left, get_within}
+use Rattle.ttx_plan.proofs.FirstInOrder.{none_ready}
+use Rattle.ttx_plan.proofs.MagazineSums.{sum_le, sum_less, sum_some, drop_next, get_left}
 use Rattle.ttx_plan.proofs.CursorsLookBack.{IsFrom, turn_from_queues}
 
 -- a page header of any magazine
@@ -52,33 +53,12 @@ sent_bytes_length (slot ∷ before) = let h : length (sent_bytes before) ≡ len
     in omega (arith, length-append (sent_bytes before) (bytes_of slot ∷ []))
 
 abbrev pub ends_info : List Slot → Bool
-ends_info [] = false
-ends_info (Empty ∷ before) = false
 ends_info (Info bytes ∷ before) = true
-ends_info (Sent m packet ∷ before) = false
+ends_info _ = false
 
 -- a packet 8/30 is only where it is due
-info_due : (info : Option (List ℕ)) (due : Bool) (slot : Slot) (bytes : List ℕ) → ((b : List ℕ) → Info b ≡ slot → ⊥) → Info bytes
-    ≡ or_info info due slot → due ≡ true
-info_due None due slot bytes never h = absurd (never bytes h)
-info_due (Some b) true slot bytes never h = refl
-info_due (Some b) false slot bytes never h = absurd (never bytes h)
-
-next_no_info : (mags : Magazines) (before : List Slot) (b : List ℕ) → Info b ≡ next_slot mags before → ⊥
-next_no_info mags before b h = at (find (is_ready mags before) (order (turn_from before))) h
-  where
-    at_next : (m : ℕ) (o : Option Packet) → Info b ≡ sending m o → ⊥
-    at_next m None h = cc
-    at_next m (Some packet) h = cc
-
-    at : (o : Option ℕ) → Info b ≡ chosen mags before o → ⊥
-    at None h = cc
-    at (Some m) h = at_next m (next_of mags m before) h
-
 info_at : (mags : Magazines) (before : List Slot) (bytes : List ℕ) → Info bytes ≡ slot_after mags before → length before % (50 * mags.lines) ≡ 0
-info_at mags before bytes h =
-    eqb-true (length before % (50 * mags.lines)) 0
-    (info_due mags.info (is_info_due mags.lines (length before)) (next_slot mags before) bytes (next_no_info mags before) h)
+info_at mags before bytes h = eqb-true (length before % (50 * mags.lines)) 0 (subst (IsFrom mags before) (sym h) (turn_from_queues mags before)).1
 
 not_both : (n every : ℕ) → 50 ≤ every → n % every ≡ 0 → suc n % every ≡ 0 → ⊥
 not_both n every big a b =
@@ -87,43 +67,28 @@ not_both n every big a b =
     let one : suc n % every ≡ 1 = ap (λ x. x % every) f ∙ mod-mul-add (n / every) every 1 (omega arith) in
     omega arith
 
-pub record Few (before : List Slot) : Type 0 where
-  pub most : infos before ≤ others before + 1
-  pub fewer : ends_info before ≡ false → infos before ≤ others before
+abbrev pub Few : List Slot → Type 0
+Few before = (infos before ≤ others before + 1) × (ends_info before ≡ false → infos before ≤ others before)
 
 pub few_infos : (mags : Magazines) (before : List Slot) → 1 ≤ mags.lines → KeepsTurns mags before → Few before
-few_infos mags [] lines t = record { most = omega arith; fewer = λ _. omega arith }
-few_infos mags (Empty ∷ before) lines t = let r = few_infos mags before lines t.1
-    in record { most = omega (arith, r.most); fewer = λ _. omega (arith, r.most) }
-few_infos mags (Sent m packet ∷ before) lines t = let r = few_infos mags before lines t.1
-    in record { most = omega (arith, r.most); fewer = λ _. omega (arith, r.most) }
+few_infos mags [] lines t = (omega arith, λ _. omega arith)
+few_infos mags (Empty ∷ before) lines t = let r = few_infos mags before lines t.1 in (omega (arith, r.0), λ _. omega (arith, r.0))
+few_infos mags (Sent m packet ∷ before) lines t = let r = few_infos mags before lines t.1 in (omega (arith, r.0), λ _. omega (arith, r.0))
 few_infos mags (Info bytes ∷ before) lines t =
-    let r = few_infos mags before lines t.1 in
-    let here : length before % (50 * mags.lines) ≡ 0 = info_at mags before bytes t.0 in
-    record {
-      most = let k : infos before ≤ others before = r.fewer (apart before t.1 here) in omega arith;
-      fewer = λ e. let f : true
-          ≡ false = e in cc;
-    }
+    (omega (arith, (few_infos mags before lines t.1).1 (apart before t.1 (info_at mags before bytes t.0))), λ e. let f : true ≡ false = e in cc)
   where
     apart : (b : List Slot) → KeepsTurns mags b → length b % (50 * mags.lines) ≡ 0 → ends_info b ≡ false
-    apart [] t here = refl
-    apart (Empty ∷ b) t here = refl
-    apart (Sent m packet ∷ b) t here = refl
     apart (Info c ∷ b) t here = absurd (not_both (length b) (50 * mags.lines) (omega arith) (info_at mags b c t.0) here)
+    apart b t here = refl
 
 -- what is left after the magazine's packet
 rest_sent : (mags : Magazines) (before : List Slot) (queue : ℕ) (packet : Packet) → next_of mags queue before ≡ Some packet →
     left_in mags before queue ≡ packet ∷ left_in mags (Sent queue packet ∷ before) queue
-rest_sent mags before queue packet h =
-    drop_next (queue_of mags queue) (sent_by queue before) packet h
-    ∙ ap (λ n. packet ∷ drop n (queue_of mags queue))
-    (sym (cond-true (eqb queue queue) (suc (sent_by queue before)) (sent_by queue before) (eq-eqb queue queue refl)))
+rest_sent mags before queue packet h = rw (eq-eqb queue queue refl) (drop_next (queue_of mags queue) (sent_by queue before) packet h)
 
 rest_other : (mags : Magazines) (before : List Slot) (queue m : ℕ) (packet : Packet) → m ≢ queue → left_in mags before m
     ≡ left_in mags (Sent queue packet ∷ before) m
-rest_other mags before queue m packet ne =
-    ap (λ n. drop n (queue_of mags m)) (sym (cond-false (eqb queue m) (suc (sent_by m before)) (sent_by m before) (ne_eqb queue m (λ e. ne (sym e)))))
+rest_other mags before queue m packet ne = rw (ne_eqb queue m (λ e. ne (sym e)))
 
 abbrev pub left_of : Magazines → List Slot → ℕ
 left_of mags before = sum_to 8 (λ m. length (left_in mags before m))
@@ -131,15 +96,11 @@ left_of mags before = sum_to 8 (λ m. length (left_in mags before m))
 abbrev pub work_of : Magazines → List Slot → ℕ
 work_of mags before = sum_to 8 (λ m. slots_for mags.lines (left_in mags before m))
 
-cost : ℕ → Packet → ℕ
-cost lines packet = cond (is_page_header packet.kind) (suc lines) 1
-
 pub left_less : (mags : Magazines) (before : List Slot) (queue : ℕ) (packet : Packet) → IsFrom mags before (Sent queue packet) →
     left_of mags before ≡ 1 + left_of mags (Sent queue packet ∷ before)
 left_less mags before queue packet h =
     sum_less (λ m. length (left_in mags before m)) (λ m. length (left_in mags (Sent queue packet ∷ before) m)) 1 8 queue h.0
-    (let e : length (left_in mags before queue) ≡ suc (length (left_in mags (Sent queue packet ∷ before) queue)) = ap length
-    (rest_sent mags before queue packet h.1) in omega arith)
+    (omega (arith, ap length (rest_sent mags before queue packet h.1)))
     (λ m ne. ap length (rest_other mags before queue m packet ne))
 
 work_less : (mags : Magazines) (before : List Slot) (queue : ℕ) (packet : Packet) → IsFrom mags before (Sent queue packet) →
@@ -162,41 +123,24 @@ empty_waits mags before most h some =
     let r = sum_some (λ m. length (left_in mags before m)) 8 some in
     let x = get_left (queue_of mags r.0) (sent_by r.0 before) r.2 in
     let off : is_ready mags before r.0 ≡ false =
-    none_ready (is_ready mags before) (turn_from before) most
-    (none_found mags.info (is_info_due mags.lines (length before)) h) r.0 r.1 in
+    none_ready (is_ready mags before) (turn_from before) most (subst (IsFrom mags before) (sym h) (turn_from_queues mags before)) r.0 r.1 in
     let off' : not (waits mags r.0 before x.0) ≡ false = ap (may_go mags r.0 before) (sym x.1) ∙ off in
     let on : waits mags r.0 before x.0 ≡ true = not-false (waits mags r.0 before x.0) off' in
     let recent : list_any (has_header r.0) (take mags.lines before) ≡ true =
     (and_parts (is_row_or_links x.0.kind) (list_any (has_header r.0) (take mags.lines before)) on).1 in
-    let own : 0 < until (has_header r.0) mags.lines before =
-    ltb-true 0 (until (has_header r.0) mags.lines before) (sym (recent_until (has_header r.0) mags.lines before) ∙ recent) in
-    let more : until (has_header r.0) mags.lines before ≤ until has_any_header mags.lines before =
-    until_more (has_header r.0) has_any_header mags.lines before (has_any_header_of r.0) in
-    omega arith
-  where
-    none_next : (m : ℕ) (o : Option Packet) → next_of mags m before ≡ o → is_ready mags before m ≡ true → Empty ≡ sending m o → ⊥
-    none_next m None e ready h = let f : false ≡ true = ap (may_go mags m before) (sym e) ∙ ready in cc
-    none_next m (Some packet) e ready h = cc
-
-    none_at : (o : Option ℕ) → find (is_ready mags before) (order (turn_from before)) ≡ o → Empty ≡ chosen mags before o → o ≡ None
-    none_at None e h = refl
-    none_at (Some m) e h = absurd (none_next m (next_of mags m before) refl ((found_ready (is_ready mags before) (turn_from before) m e).0) h)
-
-    none_found : (info : Option (List ℕ)) (due : Bool) → Empty ≡ or_info info due (next_slot mags before) →
-        find (is_ready mags before) (order (turn_from before)) ≡ None
-    none_found None due h = none_at (find (is_ready mags before) (order (turn_from before))) refl h
-    none_found (Some b) false h = none_at (find (is_ready mags before) (order (turn_from before))) refl h
-    none_found (Some b) true h = let e : Empty ≡ Info b = h in cc
+    omega (
+      arith,
+      ltb-true 0 (until (has_header r.0) mags.lines before) (sym (recent_until (has_header r.0) mags.lines before) ∙ recent),
+      until_more (has_header r.0) has_any_header mags.lines before (has_any_header_of r.0),
+    )
 
 pub total_falls : (mags : Magazines) (before : List Slot) (slot : Slot) → turn_from before ≤ 8 → slot ≡ slot_after mags before →
     0 < left_of mags before → total mags (slot ∷ before) ≤ total mags before
-total_falls mags before Empty most h some = let w : 0 < until has_any_header mags.lines before = empty_waits mags before most h some in omega arith
+total_falls mags before Empty most h some = omega (arith, empty_waits mags before most h some)
 total_falls mags before (Info bytes) most h some = omega arith
 total_falls mags before (Sent queue packet) most h some =
     let from : IsFrom mags before (Sent queue packet) = subst (IsFrom mags before) (sym h) (turn_from_queues mags before) in
-    let less : work_of mags before ≡ cond (is_page_header packet.kind) (suc mags.lines) 1 + work_of mags (Sent queue packet ∷ before) =
-    work_less mags before queue packet from in
-    by (is_page_header packet.kind) less
+    by (is_page_header packet.kind) (work_less mags before queue packet from)
   where
     by : (b : Bool) → work_of mags before ≡ cond b (suc mags.lines) 1 + work_of mags (Sent queue packet ∷ before) →
         suc (others before) + cond b mags.lines (until has_any_header mags.lines before - 1) + work_of mags (Sent queue packet ∷ before)
@@ -207,10 +151,11 @@ total_falls mags before (Sent queue packet) most h some =
 work_some : (lines : ℕ) (packets : List Packet) → length packets ≤ slots_for lines packets
 work_some lines [] = omega arith
 work_some lines (packet ∷ rest) =
-    let h : length rest ≤ slots_for lines rest = work_some lines rest in
-    let k : 1 ≤ cond (is_page_header packet.kind) (suc lines) 1 =
-    cond_both (is_page_header packet.kind) (suc lines) 1 (λ x. 1 ≤ x) (λ _. omega arith) (λ _. omega arith) in
-    omega arith
+    omega (
+      arith,
+      work_some lines rest,
+      cond_both (is_page_header packet.kind) (suc lines) 1 (λ x. 1 ≤ x) (λ _. omega arith) (λ _. omega arith),
+    )
 
 pub left_work : (mags : Magazines) (before : List Slot) → left_of mags before ≤ work_of mags before
 left_work mags before = sum_le (λ m. length (left_in mags before m)) (λ m. slots_for mags.lines (left_in mags before m)) 8
@@ -220,8 +165,7 @@ left_work mags before = sum_le (λ m. length (left_in mags before m)) (λ m. slo
 pub room : (mags : Magazines) (before : List Slot) (q : ℕ) → 1 ≤ mags.lines → KeepsTurns mags before → total mags before ≤ q → 2 * q
     ≤ 65536 → 0 < left_of mags before → length before < 65536
 room mags before q lines t most small some =
-    let f = few_infos mags before lines t in
-    omega (arith, all_slots before, f.most, left_work mags before)
+    omega (arith, all_slots before, (few_infos mags before lines t).0, left_work mags before)
 
 pub sent_most : (mags : Magazines) (before : List Slot) → KeepsTurns mags before → (m : ℕ) → m < 8 → sent_by m before ≤ length (queue_of mags m)
 sent_most mags [] t m lt = omega arith
@@ -233,7 +177,7 @@ sent_most mags (Sent queue packet ∷ before) t m lt =
     elim (cases_eq m queue) as (λ _. cond (eqb queue m) (suc (sent_by m before)) (sent_by m before) ≤ length (queue_of mags m)) [
       | inl e ↦
           let within : sent_by m before < length (queue_of mags m) =
-          get_within (queue_of mags m) (sent_by m before) packet (ap (λ x. next_of mags x before) e ∙ from.1) in
+          slice_get_within (queue_of mags m) (sent_by m before) packet (ap (λ x. next_of mags x before) e ∙ from.1) in
           rw (cond-true (eqb queue m) (suc (sent_by m before)) (sent_by m before) (eq-eqb queue m (sym e))) (omega arith)
       | inr ne ↦ rw (cond-false (eqb queue m) (suc (sent_by m before)) (sent_by m before) (ne_eqb queue m (λ e. ne (sym e)))) h
     ]

@@ -1,7 +1,7 @@
 -- How long a magazine still waits.
 use Rattle.std.proofs.Common.{◌≡◌, ℕ, zero, suc, ◌-◌, ◌≤◌, Bool, true, false, ◌||◌, cond, List, [], ◌∷◌, take, sym, ap, ◌∙◌, arith, inl, inr, ltb}
 use Rattle.std.specs.List.{list_any}
-use Rattle.std.proofs.lemmas.Bool.{cond-true, cond-false, cases_Bool, cond_both, lt-ltb, le-ltb}
+use Rattle.std.proofs.lemmas.Bool.{cond-true, cond-false, cases_Bool, cond_both, lt-ltb, le-ltb, both_ways}
 use Rattle.std.proofs.lemmas.Bool.Decides.{nat_tests}
 use Rattle.ttx_plan.specs.declared.packet.Slot.{Slot}
 
@@ -47,8 +47,5 @@ until_more some all lines (slot ∷ before) h =
           (cond_both (some slot) lines (until some lines before - 1) (λ x. x ≤ lines) (λ _. omega arith) (λ _. omega arith))
       | inr y ↦ rw (cond-false (all slot) lines (until all lines before - 1) y)
           (cond_both (some slot) lines (until some lines before - 1) (λ x. x ≤ until all lines before - 1)
-          (λ z. absurd (contra y (h slot z))) (λ _. omega arith))
+          (λ z. absurd (both_ways (all slot) y (h slot z))) (λ _. omega arith))
     ]
-  where
-    contra : all slot ≡ false → all slot ≡ true → ⊥
-    contra a b = let e : false ≡ true = sym a ∙ b in cc

@@ -40,10 +40,7 @@ pub fn block_length(class: Class, page: &Page) -> usize
             count += 1;
         }
     }
-    if are_links_sent_to(class, page) {
-        count += 1;
-    }
-    count
+    count + usize::from(are_links_sent_to(class, page))
 }
 
 // The rows that are sent to receivers of the class, from the lowest number, and X/27/0 if it is sent.

@@ -65,15 +65,13 @@ fn count_fillers(receivers: Receivers, service: &Service, places: &[usize]) -> u
     ensures few { result ≤ 8 * 2000 }
 {
     let pages = service.pages();
-    let mut count = 0;
+    let mut count: usize = 0;
     let mut fillers = Fillers::new(receivers.late);
     for round in 0..8 {
         for index in 0..pages.len() {
             let id = pages[index].id();
             if round % (8 / times(service, index)) == place_at(places, index) {
-                if fillers.pass(usize::from(id.mag()) - 1, id.page()) {
-                    count += 1;
-                }
+                count += usize::from(fillers.pass(usize::from(id.mag()) - 1, id.page()));
             }
         }
     }

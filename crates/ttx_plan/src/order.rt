@@ -57,11 +57,9 @@ fn count_used(sent: &[SentBlock]) -> usize
     ensures count { result ≡ length (used_queues (map seen_sent sent.now)) }
     ensures few { result ≤ 8 }
 {
-    let mut count = 0;
+    let mut count: usize = 0;
     for queue in 0..8 {
-        if has_pages(sent, queue) {
-            count += 1;
-        }
+        count += usize::from(has_pages(sent, queue));
     }
     count
 }

@@ -1,7 +1,7 @@
 use Rattle.ttx_plan.proofs.PlannedAcceptance.{planned_is_accepted, planned_is_found}
-use Rattle.ttx_plan.proofs.OwnLinks.{planned_links_are_own}
-use Rattle.ttx_plan.proofs.Readable.{LawsBelow}
-use Rattle.ttx_plan.proofs.SentItems.{planned_items_are_sent}
+use Rattle.ttx_plan.proofs.OwnRows.{planned_links_are_own}
+use Rattle.ttx_plan.proofs.ReadPackets.{LawsBelow}
+use Rattle.ttx_plan.proofs.WholeBlocks.{planned_items_are_sent}
 use Rattle.ttx_plan.proofs.SteadyPages.{planned_is_steady}
 use Rattle.ttx_plan.proofs.acceptance.planned_cycles_are_accepted.Goals as goal
 

@@ -1,9 +1,7 @@
-use Rattle.std.proofs.Common.{◌≡◌, ◌++◌, ◌∷◌, [], sym, ap, ◌∙◌, arith}
+use Rattle.std.proofs.Common.{◌≡◌, sym, ap, ◌∙◌, arith}
 use Rattle.std.proofs.lemmas.List.{append-nil}
-use Rattle.std.proofs.lemmas.Bool.{cond-true, cond-false}
-use Rattle.ttx_page.specs.declared.item.Item.TheVariants.{Links as TheLinks}
 use Rattle.ttx_page.specs.Views.{page_of}
-use Rattle.ttx_plan.specs.Contents.{is_sent_to, page_links_bytes, sent_rows}
+use Rattle.ttx_plan.specs.Contents.{sent_rows}
 use Rattle.ttx_plan.proofs.block.rest_packets.Goals as goal
 use Rattle.ttx_plan.proofs.block.rest_packets.Goals.{then-are_links_sent_to+in_ok-push-2, else-are_links_sent_to}
 
@@ -14,14 +12,9 @@ returns-clause-rest c =
     let rows : c.loop-above.rest.items ≡ sent_rows c.args.class page 24 = c.loop-above.invariant.rest ∙ ap (sent_rows c.args.class page) last in
     elim c.if-are_links_sent_to.branch [
       | then-are_links_sent_to+in_ok-push-2 w ↦
-          ap (λ x. x.items) w.rest-is ∙ w.in_ok-push-2.ensures.items ∙ ap (λ x. x ++ w.links_packet.result ∷ []) rows
-          ∙ ap (λ x. sent_rows c.args.class page 24 ++ x ∷ []) w.links_packet.ensures
-          ∙ ap (λ x. sent_rows c.args.class page 24 ++ x)
-          (sym (cond-true (is_sent_to c.args.class page TheLinks) (page_links_bytes page ∷ []) []
-          (sym c.are_links_sent_to.ensures ∙ w.if-are_links_sent_to.true)))
+          let sent = sym c.are_links_sent_to.ensures ∙ w.if-are_links_sent_to.true in
+          rw (w.rest-is, w.in_ok-push-2.ensures.items, rows, w.links_packet.ensures, sent)
       | else-are_links_sent_to w ↦
-          ap (λ x. x.items) w.rest-is ∙ rows ∙ sym (append-nil (sent_rows c.args.class page 24))
-          ∙ ap (λ x. sent_rows c.args.class page 24 ++ x)
-          (sym (cond-false (is_sent_to c.args.class page TheLinks) (page_links_bytes page ∷ []) []
-          (sym c.are_links_sent_to.ensures ∙ w.if-are_links_sent_to.false)))
+          let sent = sym c.are_links_sent_to.ensures ∙ w.if-are_links_sent_to.false in
+          rw (w.rest-is, rows, sent) (sym (append-nil (sent_rows c.args.class page 24)))
     ]

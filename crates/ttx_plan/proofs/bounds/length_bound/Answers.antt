@@ -1,24 +1,21 @@
-use Rattle.std.proofs.Common.{◌≡◌, ◌+◌, ◌*◌, ◌≤◌, [], length, take, take_all, refl, sym, ap, ◌∙◌, arith}
+use Rattle.std.proofs.Common.{◌≡◌, ◌+◌, ◌*◌, ◌≤◌, [], length, take, take_all, eqb, refl, sym, ap, ◌∙◌, arith}
 use Rattle.std.specs.Prelude.{sum_by}
 use Rattle.ttx_page.specs.Views.{page_of}
 use Rattle.ttx_source.specs.Services.{authored_at}
 use Rattle.ttx_plan.specs.Blocks.{Block, placed, packets_in, rounds_to, used_queues}
 use Rattle.ttx_plan.specs.Carries.{blocks_of, blocks_sent_at}
 use Rattle.ttx_plan.specs.Ranges.{IsOften}
-use Rattle.ttx_plan.proofs.ServicePages.{get_there, page_at_index, blocks_in_rounds, sum_next, used_same, same_lengths, product_most}
-use Rattle.ttx_plan.proofs.PlacedBlocks.{placed_sum}
-use Rattle.ttx_plan.proofs.ServicePages.{same_used_by}
-use Rattle.ttx_plan.proofs.SentBlocks.{led_length, led_packets, same_used}
+use Rattle.ttx_plan.proofs.ServicePages.{page_at_index, blocks_in_rounds, sum_next, used_same, same_lengths, product_most}
+use Rattle.ttx_plan.proofs.PlacedBlocks.{placed_sum, placed_any}
+use Rattle.ttx_plan.proofs.SentBlocks.{led_length, led_packets, same_queues, used_alike}
 use Rattle.ttx_plan.proofs.RepeatedBlocks.{sum_sent, count_sent}
 use Rattle.ttx_plan.proofs.bounds.length_bound.Goals as goal
 
 pub loop-index-preserved : goal.loop-index-preserved
 loop-index-preserved c =
     let often = c.times-often.result in
-    let value = get_there c.pages-pages.result.now c.loop-index.index c.index-pages-index.result c.index-pages-index.result
-    (omega arith) c.index-pages-index.is in
     let page = page_at_index c.pages-pages.result.now c.args.service.now.pages c.loop-index.index c.times-often.result
-    c.index-pages-index.result c.pages-pages.ensures.value value c.times-often.ensures.value in
+    c.index-pages-index.result c.pages-pages.ensures.value (omega arith) c.index-pages-index.is c.times-often.ensures.value in
     let authored = authored_at (page_of c.index-pages-index.result) c.times-often.result in
     let is : IsOften c.times-often.result = c.times-often.ensures.is in
     let counted = sum_next (λ (b : Block). b.often) c.args.receivers.class c.args.service.now.pages c.loop-index.index authored page in
@@ -66,8 +63,8 @@ returns c =
     let used : c.count_used.result ≡ length (used_queues sent) =
     c.count_used.ensures.count ∙ ap length
     (used_same c.args.receivers.class c.pages-pages.result.now c.args.service.now.pages 8 c.pages-pages.ensures.value
-    ∙ same_used_by plain c.args.places.now 8
-    ∙ sym (same_used c.args.receivers.late all often 8)) in
+    ∙ sym (used_alike sent plain (λ q. same_queues c.args.receivers.late all often q
+    ∙ placed_any (λ b. eqb b.queue q) (λ place b. refl) c.args.places.now plain) 8)) in
     let lines : c.from-lines.result ≡ c.args.service.now.lines = c.from-lines.ensures ∙ c.lines.ensures.value in
     ap (λ n. 2 * (n + c.loop-index.blocks * c.from-lines.result + c.count_used.result) + 2 * c.from-lines.result) packets
     ∙ ap (λ n. 2 * (packets_in sent + n * c.from-lines.result + c.count_used.result) + 2 * c.from-lines.result) blocks

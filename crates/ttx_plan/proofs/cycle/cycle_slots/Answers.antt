@@ -24,7 +24,7 @@ pub returns-in_ok-fill-clause-some : goal.returns-in_ok-fill-clause-some
 returns-in_ok-fill-clause-some c =
     let some : 0 < length (map seen_sent c.args.sent.now) = omega (arith, length-map c.args.sent.now seen_sent, c.requires.some) in
     let h = filled_some c.args.lines c.args.info (map seen_sent c.args.sent.now) c.in_ok-slots.slots.items c.fill.new.slots.items
-    (queued_sent c.args.sent.now) some c.in_ok-slots.ensures c.in_ok-fill.ensures in
+    some c.in_ok-slots.ensures c.in_ok-fill.ensures in
     omega (arith, h, c.fill.new.slots.ok)
 
 pub parallel_slots-requires-clause-few : goal.parallel_slots-requires-clause-few

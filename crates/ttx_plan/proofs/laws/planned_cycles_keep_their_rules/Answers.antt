@@ -1,6 +1,7 @@
-use Rattle.ttx_plan.proofs.Planned.{planned_is_clean, planned_headers_are_own, planned_is_sure}
+use Rattle.ttx_plan.proofs.RepeatedHeaders.{planned_is_sure}
+use Rattle.ttx_plan.proofs.UnderHeaders.{planned_is_clean, planned_headers_are_own}
 use Rattle.ttx_plan.proofs.OwnRows.{planned_rows_are_own}
-use Rattle.ttx_plan.proofs.Readable.{LawsBelow}
+use Rattle.ttx_plan.proofs.ReadPackets.{LawsBelow}
 use Rattle.ttx_plan.proofs.laws.planned_cycles_keep_their_rules.Goals as goal
 
 below : goal.After-each_slot_turns → LawsBelow

@@ -7,24 +7,20 @@ use Rattle.ttx_plan.specs.Carries.{blocks_of}
 use Rattle.ttx_plan.specs.Contents.{block_of}
 use Rattle.ttx_plan.specs.Seen.{seen}
 use Rattle.ttx_plan.proofs.PlacedBlocks.{placed_none}
-use Rattle.ttx_plan.proofs.ServicePages.{get_there, page_at_index, often_at, placed_blocks_next}
+use Rattle.ttx_plan.proofs.ServicePages.{page_at_index, each_often, placed_blocks_next}
 use Rattle.ttx_plan.proofs.planning.blocks_of.Goals as goal
 
 pub new-requires : goal.new-requires
 new-requires c =
-    let value = get_there c.pages-pages.result.now c.loop-index.index c.index-pages-index.result c.index-pages-index.result
-    (omega arith) c.index-pages-index.is in
     let page = page_at_index c.pages-pages.result.now c.args.service.now.pages c.loop-index.index c.often-often.result
-    c.index-pages-index.result c.pages-pages.ensures.value value c.often-often.ensures in
-    often_at c.args.service.now.serial c.args.service.now.pages c.loop-index.index
-    (authored_at (page_of c.index-pages-index.result) c.often-often.result) c.pages-pages.ensures.ranges.pages page
+    c.index-pages-index.result c.pages-pages.ensures.value (omega arith) c.index-pages-index.is c.often-often.ensures in
+    each_often c.args.service.now.serial c.args.service.now.pages c.pages-pages.ensures.ranges.pages c.loop-index.index
+    (authored_at (page_of c.index-pages-index.result) c.often-often.result) page
 
 pub loop-index-preserved : goal.loop-index-preserved
 loop-index-preserved c =
-    let value = get_there c.pages-pages.result.now c.loop-index.index c.index-pages-index.result c.index-pages-index.result
-    (omega arith) c.index-pages-index.is in
     let page = page_at_index c.pages-pages.result.now c.args.service.now.pages c.loop-index.index c.often-often.result
-    c.index-pages-index.result c.pages-pages.ensures.value value c.often-often.ensures in
+    c.index-pages-index.result c.pages-pages.ensures.value (omega arith) c.index-pages-index.is c.often-often.ensures in
     ap (map seen) c.in_ok-push.ensures.items
     ∙ map-append seen c.loop-index.blocks.items (c.in_ok-new.field-0 ∷ [])
     ∙ ap (λ x. x ++ seen c.in_ok-new.field-0 ∷ []) c.loop-index.invariant

@@ -1,6 +1,6 @@
 use Rattle.std.proofs.Common.{ℕ, ◌<◌, sym, subst}
 use Rattle.std.proofs.lemmas.Bool.{ltb-true, lt-ltb}
-use Rattle.ttx_plan.proofs.SpreadPlans.{exactly_too_long}
+use Rattle.ttx_plan.proofs.PlanFaults.{exactly_too_long}
 use Rattle.ttx_plan.proofs.planning.is_too_long_spread.Goals as goal
 
 pub returns : goal.returns

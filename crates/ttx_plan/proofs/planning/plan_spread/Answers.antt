@@ -1,4 +1,4 @@
-use Rattle.ttx_plan.proofs.SpreadPlans.{spread_too_long}
+use Rattle.ttx_plan.proofs.PlanFaults.{spread_too_long}
 use Rattle.ttx_plan.proofs.planning.plan_spread.Goals as goal
 
 pub returns-clause-too_long : goal.returns-clause-too_long

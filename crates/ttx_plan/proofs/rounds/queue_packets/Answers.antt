@@ -1,9 +1,8 @@
-use Rattle.std.proofs.Common.{◌≡◌, ◌++◌, ◌∷◌, [], false, map, sym, ap, ◌∙◌, arith, take_all}
+use Rattle.std.proofs.Common.{◌≡◌, ◌++◌, [], false, map, sym, ap, ◌∙◌, arith, take_all}
 use Rattle.std.specs.Prelude.{flat_map, ◌==◌, if◌then◌else◌, List}
 use Rattle.std.proofs.lemmas.List.{append-nil}
-use Rattle.std.proofs.lemmas.Bool.{cond-true, cond-false}
 use Rattle.ttx_plan.specs.declared.packet.Packet.{Packet}
-use Rattle.ttx_plan.specs.Blocks.{packets_of, has_pages, time_filling_packet}
+use Rattle.ttx_plan.specs.Blocks.{packets_of}
 use Rattle.ttx_plan.specs.Seen.{seen_sent}
 use Rattle.ttx_plan.proofs.GrowingLists.{own_more, other_more}
 use Rattle.ttx_plan.proofs.UsedQueues.{any_seen}
@@ -19,17 +18,11 @@ returns c =
     (take_all c.loop-block.block-index c.args.sent.now (omega arith)) in
     elim c.if-has_pages.branch [
       | then-has_pages+in_ok-push w ↦
-          ap (λ x. x.items) w.packets-is ∙ w.in_ok-push.ensures.items ∙ ap (λ x. x ++ w.time_filling.result ∷ []) sent
-          ∙ ap (λ x. of_blocks ++ x ∷ []) w.time_filling.ensures
-          ∙ ap (λ x. of_blocks ++ x) (sym
-          (cond-true (has_pages (map seen_sent c.args.sent.now) c.args.queue) (time_filling_packet false c.args.queue ∷ []) []
-          (sym (any_seen _ c.args.sent.now) ∙ sym c.has_pages.ensures ∙ w.if-has_pages.true)))
+          let used = sym (any_seen c.args.queue c.args.sent.now) ∙ sym c.has_pages.ensures ∙ w.if-has_pages.true in
+          rw (w.packets-is, w.in_ok-push.ensures.items, sent, w.time_filling.ensures, used)
       | else-has_pages w ↦
-          ap (λ x. x.items) w.packets-is ∙ sent ∙ sym (append-nil of_blocks)
-          ∙ ap (λ x. of_blocks ++ x) (sym
-          (cond-false (has_pages (map seen_sent c.args.sent.now) c.args.queue)
-          (time_filling_packet false c.args.queue ∷ []) []
-          (sym (any_seen _ c.args.sent.now) ∙ sym c.has_pages.ensures ∙ w.if-has_pages.false)))
+          let used = sym (any_seen c.args.queue c.args.sent.now) ∙ sym c.has_pages.ensures ∙ w.if-has_pages.false in
+          rw (w.packets-is, sent, used) (sym (append-nil of_blocks))
     ]
 
 pub loop-block-preserved : goal.loop-block-preserved

@@ -1,6 +1,6 @@
-use Rattle.std.proofs.Common.{◌+◌, ◌++◌, ◌∷◌, [], ◌&&◌, eqb, get_or, map, take, ap, sym, subst, ◌∙◌}
+use Rattle.std.proofs.Common.{◌∷◌, [], ◌&&◌, eqb, get_or, map, take, ap, subst, ◌∙◌}
 use Rattle.std.proofs.lemmas.List.{map-append}
-use Rattle.ttx_plan.specs.Blocks.{rounds_to, round_of, with_fillers}
+use Rattle.ttx_plan.specs.Blocks.{with_fillers}
 use Rattle.ttx_plan.specs.Seen.{seen, seen_sent}
 use Rattle.ttx_plan.proofs.PassedBlocks.{KeepsLatest, sent_then, keeps_then, list_else, seen_next}
 use Rattle.ttx_plan.proofs.rounds.sent_blocks.Goals as goal
@@ -23,9 +23,7 @@ loop-block-preserved c =
             ∙ ap (λ b. b && eqb (get_or c.loop-block.fillers.latest block.queue 0) block.page) c.loop-block.invariant.late)
             c.loop-block.invariant.sent;
         late = ap (λ x. x.late) w.fillers-is ∙ ap (λ x. x.late) w.pass-filler.ensures.passed ∙ c.loop-block.invariant.late;
-        latest = subst (λ x. KeepsLatest x
-            (rounds_to all round ++ round_of (map seen (take (c.loop-block.block-index + 1) c.args.blocks.now)) round))
-            (sym (ap (λ x. x.latest) w.fillers-is ∙ ap (λ x. x.latest) w.pass-filler.ensures.passed))
+        latest = rw (w.fillers-is, w.pass-filler.ensures.passed)
             (keeps_then all some _ round (seen block) c.loop-block.fillers.latest more block.queue_to w.if-round-block.true
             c.loop-block.invariant.latest);
       }
@@ -34,8 +32,6 @@ loop-block-preserved c =
           record {
             sent = ap (λ x. map seen_sent x.items) w.sent-is ∙ c.loop-block.invariant.sent ∙ ap (with_fillers c.args.late []) same;
             late = ap (λ x. x.late) w.fillers-is ∙ c.loop-block.invariant.late;
-            latest = subst (λ x. KeepsLatest x.latest
-                (rounds_to all round ++ round_of (map seen (take (c.loop-block.block-index + 1) c.args.blocks.now)) round))
-                (sym w.fillers-is) (subst (KeepsLatest c.loop-block.fillers.latest) same c.loop-block.invariant.latest);
+            latest = rw w.fillers-is (subst (KeepsLatest c.loop-block.fillers.latest) same c.loop-block.invariant.latest);
           }
     ]

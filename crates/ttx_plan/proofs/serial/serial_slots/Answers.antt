@@ -1,11 +1,9 @@
-use Rattle.std.proofs.Common.{◌++◌, ◌∷◌, [], ◌+◌, List, true, false, map, sym, ap, subst, ◌∙◌, arith, take_all}
+use Rattle.std.proofs.Common.{List, true, false, map, sym, ap, ◌∙◌, arith, take_all}
 use Rattle.std.specs.Prelude.{flat_map}
 use Rattle.std.proofs.lemmas.List.{append-nil}
 use Rattle.ttx_plan.specs.declared.packet.Slot.{Slot}
-use Rattle.ttx_plan.specs.declared.packet.Slot.TheVariants.{Sent}
-use Rattle.ttx_plan.specs.Blocks.{used_to, time_filling_packet}
 use Rattle.ttx_plan.specs.Seen.{seen_sent}
-use Rattle.ttx_plan.specs.Serial.{IsLaid, serial_block}
+use Rattle.ttx_plan.specs.Serial.{serial_block}
 use Rattle.ttx_plan.proofs.LaidSlots.{laid_same}
 use Rattle.ttx_plan.proofs.UsedQueues.{any_seen, used_more}
 use Rattle.ttx_plan.proofs.serial.serial_slots.Goals as goal
@@ -19,30 +17,15 @@ loop-queue-init c =
     c.loop-block.invariant
 
 pub loop-queue-preserved : goal.loop-queue-preserved
-loop-queue-preserved c = elim c.if-has_pages.branch [
-  | then-has_pages+in_ok-put w ↦
-      let front : List Slot = flat_map (serial_block c.args.lines) (map seen_sent c.args.sent.now) in
-      subst (λ x. IsLaid c.args.lines c.args.info
-      (front ++ map (λ queue. Sent queue (time_filling_packet true queue))
-      (used_to (map seen_sent c.args.sent.now) (c.loop-queue.queue + 1))) x.items) (sym w.slots-is)
-      (laid_same c.args.lines c.args.info _ _ w.put.new.slots.items
-      (used_more front (map seen_sent c.args.sent.now) c.loop-queue.queue true
-      (sym (any_seen _ c.args.sent.now) ∙ sym c.has_pages.ensures ∙ w.if-has_pages.true))
-      (subst (λ p. IsLaid c.args.lines c.args.info
-      ((front ++ map (λ queue. Sent queue (time_filling_packet true queue))
-      (used_to (map seen_sent c.args.sent.now) c.loop-queue.queue)) ++ Sent c.loop-queue.queue p ∷ []) w.put.new.slots.items)
-      w.time_filling.ensures
-      (w.in_ok-put.ensures (front ++ map (λ queue. Sent queue (time_filling_packet true queue))
-      (used_to (map seen_sent c.args.sent.now) c.loop-queue.queue)) c.loop-queue.invariant)))
-  | else-has_pages w ↦
-      let front : List Slot = flat_map (serial_block c.args.lines) (map seen_sent c.args.sent.now) in
-      subst (λ x. IsLaid c.args.lines c.args.info
-      (front ++ map (λ queue. Sent queue (time_filling_packet true queue))
-      (used_to (map seen_sent c.args.sent.now) (c.loop-queue.queue + 1))) x.items) (sym w.slots-is)
-      (laid_same c.args.lines c.args.info _ _ c.loop-queue.slots.items
-      (used_more front (map seen_sent c.args.sent.now) c.loop-queue.queue false
-      (sym (any_seen _ c.args.sent.now) ∙ sym c.has_pages.ensures ∙ w.if-has_pages.false))
-      (laid_same c.args.lines c.args.info _ _ c.loop-queue.slots.items
-      (sym (append-nil (front ++ map (λ queue. Sent queue (time_filling_packet true queue))
-      (used_to (map seen_sent c.args.sent.now) c.loop-queue.queue)))) c.loop-queue.invariant))
-]
+loop-queue-preserved c =
+    let front : List Slot = flat_map (serial_block c.args.lines) (map seen_sent c.args.sent.now) in
+    elim c.if-has_pages.branch [
+      | then-has_pages+in_ok-put w ↦ rw w.slots-is (laid_same c.args.lines c.args.info _ _ w.put.new.slots.items
+          (used_more front (map seen_sent c.args.sent.now) c.loop-queue.queue true
+          (sym (any_seen _ c.args.sent.now) ∙ sym c.has_pages.ensures ∙ w.if-has_pages.true))
+          (rw w.time_filling.ensures at (w.in_ok-put.ensures _ c.loop-queue.invariant)))
+      | else-has_pages w ↦ rw w.slots-is (laid_same c.args.lines c.args.info _ _ c.loop-queue.slots.items
+          (used_more front (map seen_sent c.args.sent.now) c.loop-queue.queue false
+          (sym (any_seen _ c.args.sent.now) ∙ sym c.has_pages.ensures ∙ w.if-has_pages.false))
+          (laid_same c.args.lines c.args.info _ _ c.loop-queue.slots.items (sym (append-nil _)) c.loop-queue.invariant))
+    ]

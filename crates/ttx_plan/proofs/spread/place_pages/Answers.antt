@@ -1,13 +1,10 @@
-use Rattle.std.proofs.Common.{ℕ, ◌<◌, ◌+◌, get_or, length, ap, sym, subst, arith, ◌∙◌}
+use Rattle.std.proofs.Common.{◌<◌, get_or, length, ap, sym, subst, arith, ◌∙◌}
 use Rattle.std.specs.Prelude.{slice_get}
 use Rattle.ttx_page.specs.Views.{page_of}
 use Rattle.ttx_source.specs.Services.{authored_at}
-use Rattle.ttx_plan.specs.Blocks.{placed}
-use Rattle.ttx_plan.specs.Carries.{blocks_of}
-use Rattle.ttx_plan.specs.Spreading.{AreCounted, IsSpreadTo}
-use Rattle.ttx_plan.proofs.ServicePages.{get_there, page_at_index}
-use Rattle.ttx_plan.proofs.SpreadPages.{listed_page, page_spread, page_counted, page_passed, added_most, small_set}
-use Rattle.ttx_plan.proofs.SpreadPasses.{period_range}
+use Rattle.ttx_plan.proofs.ServicePages.{listed_page, page_at_index}
+use Rattle.ttx_plan.proofs.SpreadPages.{page_spread, page_counted, page_passed, added_most, small_set}
+use Rattle.ttx_plan.proofs.OftenNumbers.{period_range}
 use Rattle.ttx_plan.proofs.spread.place_pages.Goals as goal
 use Rattle.ttx_plan.proofs.spread.place_pages.Goals.{then-times-often, else-times-often}
 
@@ -20,38 +17,27 @@ loop-index-preserved c =
     omega (arith, c.loop-index.invariant.enough, c.pages-pages.ensures.count, c.loop-index-test.true) in
     elim c.if-times-often.branch [
       | then-times-often w ↦
-          let value = get_there c.pages-pages.result.now c.loop-index.index w.index-pages-index.result w.index-pages-index.result
-          (omega (arith, c.loop-index-test.true)) w.index-pages-index.is in
           let page = page_at_index c.pages-pages.result.now c.args.service.now.pages c.loop-index.index c.times.result
-          w.index-pages-index.result c.pages-pages.ensures.value value c.times.ensures.value in
+          w.index-pages-index.result c.pages-pages.ensures.value (omega (arith, c.loop-index-test.true)) w.index-pages-index.is
+          c.times.ensures.value in
           let authored = authored_at (page_of w.index-pages-index.result) c.times.result in
           record {
             enough = omega (arith, c.loop-index.invariant.enough, c.if-times-often.auto.places);
-            small = subst (λ xs. (at : ℕ) → get_or xs at 0 < 8) (sym w.places-is)
-                (λ at. small_set c.loop-index.places c.loop-index.index w.first_least-place.result at was.small
+            small = rw w.places-is (λ at. small_set c.loop-index.places c.loop-index.index w.first_least-place.result at was.small
                 (omega (arith, w.first_least-place.ensures.within, (period_range c.args.often c.requires.often).1)));
-            spread = subst (λ x. IsSpreadTo c.args.class c.args.service.now.pages x c.args.often (c.loop-index.index + 1))
-                (sym w.places-is)
-                (page_spread c.args.class c.loop-index.places c.args.service.now.pages c.loop-index.index c.args.often w.first_least-place.result
-                w.burdens-burdens.result c.loop-index.packets (authored_at (page_of w.index-pages-index.result) c.times.result) here page
+            spread = rw w.places-is (page_spread c.args.class c.loop-index.places c.args.service.now.pages c.loop-index.index c.args.often
+                w.first_least-place.result w.burdens-burdens.result c.loop-index.packets
+                (authored_at (page_of w.index-pages-index.result) c.times.result) here page
                 w.if-times-often.true c.requires.often w.first_least-place.ensures (w.burdens-burdens.ensures.value _ page) was.counted was.spread);
-            counted = subst (λ x. AreCounted x (placed c.if-times-often.places (blocks_of c.args.class c.args.service.now.pages)) c.args.often
-                (c.loop-index.index + 1))
-                (sym w.packets-is)
-                (subst (λ x. AreCounted w.add_packets.new.packets (placed x (blocks_of c.args.class c.args.service.now.pages)) c.args.often
-                (c.loop-index.index + 1))
-                (sym w.places-is)
-                (page_counted c.args.class c.loop-index.places c.args.service.now.pages c.loop-index.index c.args.often w.first_least-place.result
-                w.block_length.result c.loop-index.packets w.add_packets.new.packets
+            counted = rw (w.packets-is, w.places-is) (page_counted c.args.class c.loop-index.places c.args.service.now.pages c.loop-index.index
+                c.args.often w.first_least-place.result w.block_length.result c.loop-index.packets w.add_packets.new.packets
                 (authored_at (page_of w.index-pages-index.result) c.times.result) here page w.if-times-often.true
                 w.block_length.ensures.length (w.add_packets.auto.packets ∙ was.counted.eight)
-                (λ round lt. w.add_packets.ensures round (subst (λ k. round < k) (sym was.counted.eight) lt)) was.counted));
+                (λ round lt. w.add_packets.ensures round (subst (λ k. round < k) (sym was.counted.eight) lt)) was.counted);
             room = λ round.
                 let most = added_most c.loop-index.packets w.add_packets.new.packets _ w.first_least-place.result w.block_length.result round
                 w.add_packets.auto.packets w.block_length.ensures.few w.add_packets.ensures in
-                let before = was.room round in
-                let after = ap (λ x. get_or x round 0) w.packets-is in
-                omega (arith, most, before, after);
+                omega (arith, most, was.room round, ap (λ x. get_or x round 0) w.packets-is);
           }
       | else-times-often w ↦
           let listed = listed_page (slice_get pages n) c.times.result c.times.ensures.value in
@@ -59,28 +45,22 @@ loop-index-preserved c =
           listed.0 listed.1.0 (λ e. w.if-times-often.false (sym listed.1.1 ∙ e)) was.spread was.counted in
           record {
             enough = omega (arith, c.loop-index.invariant.enough, c.if-times-often.auto.places);
-            small = subst (λ xs. (at : ℕ) → get_or xs at 0 < 8) (sym w.places-is) was.small;
-            spread = subst (λ x. IsSpreadTo c.args.class c.args.service.now.pages x c.args.often (c.loop-index.index + 1))
-                (sym w.places-is) passed.0;
-            counted = subst (λ x. AreCounted x (placed c.if-times-often.places (blocks_of c.args.class c.args.service.now.pages)) c.args.often
-                (c.loop-index.index + 1))
-                (sym w.packets-is)
-                (subst (λ x. AreCounted c.loop-index.packets (placed x (blocks_of c.args.class c.args.service.now.pages)) c.args.often
-                (c.loop-index.index + 1))
-                (sym w.places-is) passed.1);
-            room = λ round.
-                let before = was.room round in
-                let after = ap (λ x. get_or x round 0) w.packets-is in
-                omega (arith, before, after);
+            small = rw w.places-is was.small;
+            spread = rw w.places-is passed.0;
+            counted = rw (w.packets-is, w.places-is) passed.1;
+            room = λ round. omega (arith, was.room round, ap (λ x. get_or x round 0) w.packets-is);
           }
     ]
 
 pub burdens-burdens-requires-clause-packets : goal.burdens-burdens-requires-clause-packets
 burdens-burdens-requires-clause-packets c = (
   c.loop-index.invariant.counted.eight,
-  λ round.
-      let now = c.loop-index.invariant.room round in
-      let before = c.requires.room round in
-      let few = c.pages-pages.ensures.ranges.count in
-      omega (arith, now, before, few, c.pages-pages.ensures.count, c.loop-index-test.true),
+  λ round. omega (
+    arith,
+    c.loop-index.invariant.room round,
+    c.requires.room round,
+    c.pages-pages.ensures.ranges.count,
+    c.pages-pages.ensures.count,
+    c.loop-index-test.true,
+  ),
 )

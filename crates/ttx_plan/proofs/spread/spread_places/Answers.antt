@@ -3,10 +3,11 @@ use Rattle.ttx_plan.specs.Blocks.{placed}
 use Rattle.ttx_plan.specs.Carries.{blocks_of}
 use Rattle.ttx_plan.specs.Ranges.{IsOften}
 use Rattle.ttx_plan.specs.Spreading.{IsSpreadTo}
-use Rattle.ttx_plan.proofs.PlacedPages.{blocks_often, blocks_size, each_often}
+use Rattle.ttx_plan.proofs.ServicePages.{blocks_often, blocks_size, each_often}
+use Rattle.ttx_plan.proofs.OftenNumbers.{half_again}
 use Rattle.ttx_plan.proofs.SpreadPages.{spread_in_range}
 use Rattle.ttx_plan.proofs.SubpageLists.{zero_each}
-use Rattle.ttx_plan.proofs.SpreadPasses.{counted_pass, counted_start, half_again, spread_end, spread_pass, spread_start}
+use Rattle.ttx_plan.proofs.SpreadPasses.{counted_pass, counted_start, spread_end, spread_pass, spread_start}
 use Rattle.ttx_plan.proofs.spread.spread_places.Goals as goal
 
 pub loop-often-init : goal.loop-often-init
@@ -41,10 +42,7 @@ loop-often-preserved c =
           c.place_pages.ensures.spread;
       counted = counted_pass c.place_pages.new.packets (placed c.place_pages.new.places (blocks_of c.args.class c.args.service.now.pages))
           c.loop-often.often _ is often size c.place_pages.ensures.counted;
-      room = λ round.
-          let more = c.place_pages.ensures.room round in
-          let before = c.loop-often.invariant.room round in
-          omega (arith, more, before, c.loop-often-test.true);
+      room = λ round. omega (arith, c.place_pages.ensures.room round, c.loop-often.invariant.room round, c.loop-often-test.true);
     }
 
 pub returns-clause-spread : goal.returns-clause-spread

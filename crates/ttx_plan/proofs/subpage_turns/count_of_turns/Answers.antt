@@ -21,7 +21,8 @@ loop-other-preserved c =
 
 pub returns-clause-value : goal.returns-clause-value
 returns-clause-value c = λ p e. c.loop-other.invariant.value p e
-    ∙ count_all (take_turns p) c.args.service.now.pages c.loop-other.other (omega (arith, c.loop-other-test.false, c.pages-count_of_pages.ensures.count))
+    ∙ count_all (take_turns p) c.args.service.now.pages c.loop-other.other
+    (omega (arith, c.loop-other-test.false, c.pages-count_of_pages.ensures.count))
 
 pub returns-clause-some : goal.returns-clause-some
 returns-clause-some c =

@@ -14,11 +14,13 @@ loop-other-preserved c =
           let next = count_next (has_smaller_subcode p) c.args.service.now.pages c.loop-other.other q.0 q.1 in
           ap (λ n. n + c.from-count.result) (c.loop-other.invariant.value p e)
           ∙ ap (λ n. count_by (has_smaller_subcode p) (take c.loop-other.other c.args.service.now.pages) + n)
-          (as_number c.from-count.result c.has_smaller_subcode.result (has_smaller_subcode p q.0) c.from-count.ensures (c.has_smaller_subcode.ensures p q.0 e q.1))
+          (as_number c.from-count.result c.has_smaller_subcode.result (has_smaller_subcode p q.0) c.from-count.ensures
+          (c.has_smaller_subcode.ensures p q.0 e q.1))
           ∙ sym next;
       few = search rules;
     }
 
 pub returns-clause-value : goal.returns-clause-value
 returns-clause-value c = λ p e. c.loop-other.invariant.value p e
-    ∙ count_all (has_smaller_subcode p) c.args.service.now.pages c.loop-other.other (omega (arith, c.loop-other-test.false, c.pages-count_of_pages.ensures.count))
+    ∙ count_all (has_smaller_subcode p) c.args.service.now.pages c.loop-other.other
+    (omega (arith, c.loop-other-test.false, c.pages-count_of_pages.ensures.count))
