@@ -1,18 +1,15 @@
--- The text of a verdict and of the first reason of each page (profile), and what is returned for three files.
+-- The text of a verdict and of the first reason of each page (profile).
 --
 --   reason_line, page_line, page_lines      the line of a reason, of a page that has one, and those of all pages
 --   has_reason, reasons_in  whether a page has one; how many have
 --   all_text                the line of the verdict, those of the pages, and the count
 --   IsJudgedAll             the verdict and the reasons of what was read, with their text
---   CertifiesAll            what has been written, for each answer
-use Rattle.std.specs.Prelude.{◌≡◌, ℕ, Bool, List, ◌∷◌, [], ◌++◌, codes, length, flat_map, Option, Some, None, is_some, Result}
+use Rattle.std.specs.Prelude.{◌≡◌, ℕ, Bool, List, ◌∷◌, [], ◌++◌, codes, length, flat_map, Option, Some, None, is_some}
 use Rattle.std.specs.List.{count_by}
 use Rattle.std.specs.Fmt.{decimal}
 use Rattle.ttx_source.specs.Services.{ServiceFields, pages_of}
 use Rattle.ttx_witness.specs.Entries.{CertificateFields, certificate_at}
 use Rattle.ttx_witness.specs.declared.faults.reason.Reason.{Reason}
-use Rattle.ttx_files.specs.Judging as files
-use Rattle.ttx_files.specs.declared.faults.FilesFault.{FilesFault}
 use Rattle.ttx_certify.specs.AllReasons.{AreReasons}
 use Rattle.ttx_certify.specs.Verdicts.{IsVerdict, Means}
 use Rattle.ttx_certify.specs.VerdictLines.{reason_text, verdict_line}
@@ -48,7 +45,3 @@ pub record IsJudgedAll (slots : List (List ℕ)) (service : ServiceFields) (w : 
   pub told : List PageReason
   pub reasons : AreReasons slots (pages_of service) (certificate_at w) told
   pub text_is : text ≡ all_text w verdict told
-
--- Ok: the text went out. A write fault: its first `written` bytes. Otherwise nothing, and why the inputs are refused.
-abbrev pub CertifiesAll : List ℕ → List ℕ → List ℕ → Option (List ℕ) → Option (List ℕ) → Result Verdict FilesFault → Type 0
-CertifiesAll = files.AnswersFiles IsJudgedAll

@@ -29,8 +29,8 @@ pub fn line_of(
     verdict_line(alloc, certificate, pages, *verdict)
 }
 
-// Judges for receivers that show pages at once.
-struct AtOnce;
+/// Judges for receivers that show a page at once. The line is that of `certify_files`.
+pub struct AtOnce;
 
 impl Judge for AtOnce {
     type Verdict = Verdict;

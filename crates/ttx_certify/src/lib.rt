@@ -22,12 +22,12 @@ pub mod verdict_laws;
 mod verdict_lines;
 mod walking;
 
-pub use all_files::certify_files_all;
+pub use all_files::All;
 pub use all_lines::{all_text, reasons_in};
 pub use all_reasons::{AllReasons, PageReason};
 pub use certifying::{certify, certify_all};
-pub use files::certify_files;
-pub use passes::certify_passes;
+pub use files::{AtOnce, certify_files};
+pub use passes::{certify_passes, walk_files};
 pub use receiving::receive;
 pub use services::{certify_all_of_service, certify_service, find_service};
 pub use ttx_files::{FilesFault, TextFile};

@@ -15,8 +15,8 @@ use std::io::{Read, Write};
 use ttx_cycle::Counted;
 use ttx_files::{FilesFault, Texts, Told, read_slots, read_texts, write_told};
 
-// The verdict of a walk over two packet files.
-fn walk_files<A: Read, B: Read>(
+/// The verdict on the second of two readings of a packet file, which are read slot by slot, the first one first.
+pub fn walk_files<A: Read, B: Read>(
     alloc: Global,
     texts: &Texts,
     first: &mut Counted<A>,

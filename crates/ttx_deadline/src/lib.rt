@@ -12,9 +12,9 @@ mod required_lines;
 mod requirements;
 
 pub use finding::{Asked, FoundWith, find_with, with_found};
-pub use late_required_files::certify_files_late_required;
+pub use late_required_files::LateRequired;
 pub use late_required_lines::late_required_line;
 pub use late_requirements::{LateRequiredVerdict, certify_late_required};
-pub use required_files::certify_files_required;
+pub use required_files::Required;
 pub use required_lines::required_line;
 pub use requirements::{RequiredVerdict, Unmet, certify_required, first_unmet};

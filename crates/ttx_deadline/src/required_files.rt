@@ -1,19 +1,14 @@
-//! Certifies a packet file, a service definition and a certificate, with a requirement.
+//! The verdict on files, with a deadline that is required.
 
-ghost use Rattle.std.specs.Prelude.{◌≡◌, ◌∷◌, [], IfSome, IfOk, string_bytes};
-ghost use Rattle.ttx_cycle.specs.Counters.{inner_of, faults_of};
+ghost use Rattle.std.specs.Prelude.{◌≡◌, IfOk, string_bytes};
 ghost use Rattle.ttx_certificate.specs.Certificates.{fields_of};
-ghost use Rattle.ttx_files.specs.Answers.{IsUntouched, is_write};
-ghost use Rattle.ttx_files.specs.Devices.{AtCycle, AtService, AtCertificate, input, output, failed_at, IsFirstFailure};
 ghost use Rattle.ttx_deadline.specs.RequiredLines.{required_line};
-ghost use Rattle.ttx_deadline.specs.RequiredFiles.{CertifiesRequired, IsJudgedRequired};
+ghost use Rattle.ttx_deadline.specs.RequiredFiles.{IsJudgedRequired};
 
 use crate::required_lines::required_line;
 use crate::requirements::{RequiredVerdict, certify_required};
 use std::alloc::Global;
-use std::io::{Read, Write};
-use ttx_cycle::Counted;
-use ttx_files::{FilesFault, Inputs, Judge, Told, answer_files};
+use ttx_files::{Inputs, Judge, Told};
 use ttx_witness::{Certificate, NoMemory};
 
 // The line of a verdict on so many pages.
@@ -28,9 +23,10 @@ fn line_of(
     required_line(alloc, certificate, pages, *verdict)
 }
 
-// Judges with a requirement.
+/// Judges for receivers that show a page at once, with a deadline of at most so many fields where one is required. The line is that of the
+/// verdict of `certify_required`.
 #[derive(Drop)]
-struct Required(Option<u32>);
+pub struct Required(pub Option<u32>);
 
 impl Judge for Required {
     type Verdict = RequiredVerdict;
@@ -48,36 +44,4 @@ impl Judge for Required {
             Err(_) => Err(NoMemory),
         }
     }
-}
-
-/// Reads a packet file, a service definition and a certificate, in this order, and writes the line of the verdict of `certify_required` on
-/// them.
-///
-/// At `Write` exactly the first `written` bytes of the line went out; at any other fault nothing is written, whatever the readers gave.
-pub fn certify_files_required<A: Read, B: Read, C: Read, W: Write>(
-    alloc: Global,
-    cycle: &mut Counted<A>,
-    service: &mut Counted<B>,
-    certificate: &mut Counted<C>,
-    required: Option<u32>,
-    writer: &mut Counted<W>,
-) -> Result<RequiredVerdict, FilesFault>
-    ensures bytes { IfSome (A.remaining (inner_of cycle.old)) (λ a.
-        IfSome (B.remaining (inner_of service.old)) (λ b.
-        IfSome (C.remaining (inner_of certificate.old)) (λ c.
-        CertifiesRequired a b c required (W.contents (inner_of writer.old)) (W.contents (inner_of writer.new)) result))) }
-    ensures faults { IsFirstFailure (input AtCycle (A.remaining (inner_of cycle.old)) (faults_of cycle.old) (faults_of cycle.new)
-        ∷ input AtService (B.remaining (inner_of service.old)) (faults_of service.old) (faults_of service.new)
-        ∷ input AtCertificate (C.remaining (inner_of certificate.old)) (faults_of certificate.old) (faults_of certificate.new)
-        ∷ output (faults_of writer.old) (faults_of writer.new) ∷ []) (failed_at result) }
-    ensures untouched { IsUntouched is_write result writer.old writer.new }
-{
-    answer_files(
-        alloc,
-        &Required(required),
-        cycle,
-        service,
-        certificate,
-        writer,
-    )
 }

@@ -1,13 +1,11 @@
--- What is returned and written when a packet file, a service definition and a certificate are certified for receivers that show pages late.
+-- The verdict on a packet file, a service definition and a certificate for receivers that show pages late.
 --
 --   CertifiesLate           the verdict on three inputs, and its line
---   CertifiesFilesLate      what has been written, for each answer
 --   IsJudgedLate            the verdict on what was read, with its line
-use Rattle.std.specs.Prelude.{◌≡◌, ℕ, List, length, Option, Result}
+use Rattle.std.specs.Prelude.{◌≡◌, ℕ, List, length}
 use Rattle.ttx_source.specs.Services.{ServiceFields, pages_of}
 use Rattle.ttx_witness.specs.Entries.{CertificateFields, certificate_at}
-use Rattle.ttx_files.specs.Judging.{IsJudged, AnswersFiles}
-use Rattle.ttx_files.specs.declared.faults.FilesFault.{FilesFault}
+use Rattle.ttx_files.specs.Judging.{IsJudged}
 use Rattle.ttx_late.specs.LateVerdicts.{IsLateVerdict, MeansLate}
 use Rattle.ttx_late.specs.LateVerdictLines.{late_verdict_line}
 use Rattle.ttx_late.specs.declared.verdict.LateVerdict.{LateVerdict}
@@ -22,7 +20,3 @@ pub record IsJudgedLate (slots : List (List ℕ)) (service : ServiceFields) (w :
 -- the three inputs are a packet file, a service definition and a certificate, and this is the verdict on them
 abbrev pub CertifiesLate : List ℕ → List ℕ → List ℕ → LateVerdict → List ℕ → Type 0
 CertifiesLate = IsJudged IsJudgedLate
-
--- Ok: the line of the verdict was written. A write fault: its first `written` bytes. Any other fault: nothing, and why the inputs are refused.
-abbrev pub CertifiesFilesLate : List ℕ → List ℕ → List ℕ → Option (List ℕ) → Option (List ℕ) → Result LateVerdict FilesFault → Type 0
-CertifiesFilesLate = AnswersFiles IsJudgedLate

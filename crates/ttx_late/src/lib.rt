@@ -19,7 +19,7 @@ mod verdict;
 mod verdict_lines;
 
 pub use certifying::certify_late;
-pub use files::certify_files_late;
+pub use files::Late;
 pub use followers::{first_unshown, gap_after, greatest_gap, heads, heads_another, place_of};
 pub use unshown::Unshown;
 pub use verdict::LateVerdict;

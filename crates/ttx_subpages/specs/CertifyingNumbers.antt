@@ -1,15 +1,10 @@
--- What is returned and written when a packet file, a service definition and a certificate are certified for viewers who key a page
--- number alone.
+-- The verdict on a packet file, a service definition and a certificate for viewers who key a page number alone.
 --
 --   IsJudgedByNumber        the verdict on what was read, and its text
---   CertifiesNumbers        the same for three inputs
---   CertifiesFilesByNumber  what has been written, for each answer
-use Rattle.std.specs.Prelude.{◌≡◌, ℕ, List, length, Option, Result}
+use Rattle.std.specs.Prelude.{◌≡◌, ℕ, List, length}
 use Rattle.ttx_page.specs.Streams.{repeated}
 use Rattle.ttx_source.specs.Services.{ServiceFields, pages_of}
 use Rattle.ttx_certificate.specs.Entries.{CertificateFields, certificate_at}
-use Rattle.ttx_files.specs.Judging.{IsJudged, AnswersFiles}
-use Rattle.ttx_files.specs.declared.faults.FilesFault.{FilesFault}
 use Rattle.ttx_subpages.specs.NumberReports.{AreReports, numbers_verdict_text}
 use Rattle.ttx_subpages.specs.NumbersVerdicts.{IsNumbersVerdict, MeansNumbers}
 use Rattle.ttx_subpages.specs.declared.reports.NumberReport.{NumberReport}
@@ -23,11 +18,3 @@ pub record IsJudgedByNumber (slots : List (List ℕ)) (service : ServiceFields) 
   pub reports : List NumberReport
   pub are : AreReports (repeated slots) (pages_of service) reports
   pub text_is : text ≡ numbers_verdict_text w (length service.pages) reports verdict
-
--- the three inputs are a packet file, a service definition and a certificate, and this is the verdict on them
-abbrev pub CertifiesNumbers : List ℕ → List ℕ → List ℕ → NumbersVerdict → List ℕ → Type 0
-CertifiesNumbers = IsJudged IsJudgedByNumber
-
--- Ok: the text of the verdict was written. A write fault: its first `written` bytes. Any other fault: nothing, and why the inputs are refused.
-abbrev pub CertifiesFilesByNumber : List ℕ → List ℕ → List ℕ → Option (List ℕ) → Option (List ℕ) → Result NumbersVerdict FilesFault → Type 0
-CertifiesFilesByNumber = AnswersFiles IsJudgedByNumber

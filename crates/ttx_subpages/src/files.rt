@@ -1,21 +1,16 @@
-//! Certifies files for viewers who key only page numbers: a packet file, a service definition and a certificate.
+//! The verdict on files for viewers who key a page number alone.
 
-ghost use Rattle.std.specs.Prelude.{◌≡◌, ◌∷◌, [], IfSome, IfOk, length, string_bytes};
-ghost use Rattle.ttx_cycle.specs.Counters.{inner_of, faults_of};
+ghost use Rattle.std.specs.Prelude.{◌≡◌, IfOk, length, string_bytes};
 ghost use Rattle.ttx_certificate.specs.Certificates.{fields_of};
-ghost use Rattle.ttx_files.specs.Answers.{IsUntouched, is_write};
-ghost use Rattle.ttx_files.specs.Devices.{AtCycle, AtService, AtCertificate, input, output, failed_at, IsFirstFailure};
 ghost use Rattle.ttx_subpages.specs.NumberReports.{numbers_verdict_text};
-ghost use Rattle.ttx_subpages.specs.CertifyingNumbers.{IsJudgedByNumber, CertifiesFilesByNumber};
+ghost use Rattle.ttx_subpages.specs.CertifyingNumbers.{IsJudgedByNumber};
 
 use crate::certifying::certify_numbers;
 use crate::number_lines::numbers_verdict_text;
 use crate::reports::{NumberReport, number_reports};
 use crate::verdict::NumbersVerdict;
 use std::alloc::Global;
-use std::io::{Read, Write};
-use ttx_cycle::Counted;
-use ttx_files::{FilesFault, Inputs, Judge, Told, answer_files};
+use ttx_files::{Inputs, Judge, Told};
 use ttx_witness::NoMemory;
 
 // The text of a verdict on what was read.
@@ -32,8 +27,9 @@ fn text_of(
     numbers_verdict_text(alloc, &inputs.certificate, pages, reports, *verdict)
 }
 
-// Judges for viewers who key page numbers alone.
-struct ByNumber;
+/// Judges also for receivers that show a page late, and for viewers who key a page number alone. The text is the line of the verdict of
+/// `certify_numbers`, and behind a yes a line for each number with several pages.
+pub struct ByNumber;
 
 impl Judge for ByNumber {
     type Verdict = NumbersVerdict;
@@ -47,30 +43,4 @@ impl Judge for ByNumber {
         let line = text_of(alloc, inputs, reports.as_slice(), &verdict)?;
         Ok(Told { verdict, line })
     }
-}
-
-/// Reads a packet file, a service definition and a certificate, in this order, certifies the pages of the service also for receivers
-/// that show pages late and for viewers who key only page numbers, and writes the text of the verdict: the yes line and a line for
-/// each number with several pages, or the no line. `certify_numbers` says what a yes means.
-///
-/// Nothing is written before everything is judged. At a `Write` fault exactly the first `written` bytes of the text have been written; at
-/// any other fault the writer is unchanged.
-pub fn certify_files_numbers<A: Read, B: Read, C: Read, W: Write>(
-    alloc: Global,
-    cycle: &mut Counted<A>,
-    service: &mut Counted<B>,
-    certificate: &mut Counted<C>,
-    writer: &mut Counted<W>,
-) -> Result<NumbersVerdict, FilesFault>
-    ensures bytes { IfSome (A.remaining (inner_of cycle.old)) (λ a.
-        IfSome (B.remaining (inner_of service.old)) (λ b.
-        IfSome (C.remaining (inner_of certificate.old)) (λ c.
-        CertifiesFilesByNumber a b c (W.contents (inner_of writer.old)) (W.contents (inner_of writer.new)) result))) }
-    ensures faults { IsFirstFailure (input AtCycle (A.remaining (inner_of cycle.old)) (faults_of cycle.old) (faults_of cycle.new)
-        ∷ input AtService (B.remaining (inner_of service.old)) (faults_of service.old) (faults_of service.new)
-        ∷ input AtCertificate (C.remaining (inner_of certificate.old)) (faults_of certificate.old) (faults_of certificate.new)
-        ∷ output (faults_of writer.old) (faults_of writer.new) ∷ []) (failed_at result) }
-    ensures untouched { IsUntouched is_write result writer.old writer.new }
-{
-    answer_files(alloc, &ByNumber, cycle, service, certificate, writer)
 }

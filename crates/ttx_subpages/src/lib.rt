@@ -17,7 +17,7 @@ mod verdict;
 mod wait_lines;
 
 pub use certifying::certify_numbers;
-pub use files::certify_files_numbers;
+pub use files::ByNumber;
 pub use intervals::longest_interval;
 pub use lack::Lack;
 pub use lacks::first_lack;
