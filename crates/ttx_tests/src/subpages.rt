@@ -4,12 +4,12 @@ use std::alloc::{AllocError, Global};
 use std::test::Fail;
 use ttx_cycle::faulty::{FaultyReader, FaultyWriter};
 use ttx_cycle::{Counted, Cycle};
+use ttx_files::answer_files;
 use ttx_page::{Item, Selection};
 use ttx_source::{Service, read_service};
 use ttx_subpages::{
-    Lack, NumbersVerdict, certify_files_numbers, certify_numbers, count_of, first_lack,
-    greatest_interval, least_stay, longest_interval, number_reports, number_waits,
-    numbers_verdict_text,
+    ByNumber, Lack, NumbersVerdict, certify_numbers, count_of, first_lack, greatest_interval,
+    least_stay, longest_interval, number_reports, number_waits, numbers_verdict_text,
 };
 use ttx_witness::{Certificate, read_certificate};
 
@@ -291,8 +291,9 @@ fn files_are_certified_by_number(rt: HostRuntime) -> Result<(), Fail> {
     let mut service = Counted::new(FaultyReader::new(SERVICE, 9, None));
     let mut certificate = Counted::new(FaultyReader::new(CERTIFICATE, 10, None));
     let mut writer = Counted::new(FaultyWriter::new(&mut room, 7, None));
-    let answer = certify_files_numbers(
+    let answer = answer_files(
         rt.alloc(),
+        &ByNumber,
         &mut cycle,
         &mut service,
         &mut certificate,

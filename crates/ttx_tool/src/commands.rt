@@ -6,8 +6,6 @@ pub mod air;
 pub mod beginnings;
 pub mod book;
 pub mod certify;
-mod certify_json;
-mod certify_lines;
 pub mod check;
 pub mod check_json;
 pub mod compose;

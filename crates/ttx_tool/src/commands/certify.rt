@@ -1,24 +1,25 @@
 //! `certify`: whether a cycle is accepted with a certificate for the pages of a service.
 
-ghost use Rattle.std.specs.Prelude.{◌≡◌};
+ghost use Rattle.std.specs.Prelude.{◌≡◌, ℕ};
 ghost use Rattle.ttx_cycle.specs.Counters.{inner_of};
 ghost use Rattle.ttx_files.specs.Answers.{IsUntouched};
 ghost use Rattle.ttx_files.specs.Devices.{IsFirstFailure};
 ghost use Rattle.ttx_tool.specs.Answers.{verdict_status, late_status, numbers_status, required_status};
-ghost use Rattle.ttx_tool.specs.Certify.{CertifiesBy, CertifiesTwice};
+ghost use Rattle.ttx_tool.specs.Certify.{AnswersClaim, CertifiesBy, CertifiesTwice};
 ghost use Rattle.ttx_tool.specs.Claims.{claim_devices, twice_devices};
 ghost use Rattle.ttx_tool.specs.Devices.{is_tool_write, failed_at};
 
-use super::{certify_json, certify_lines};
 use crate::claims::Claim;
 use crate::faults::ToolFault;
 use std::alloc::Global;
 use std::io::{Read, Write};
-use ttx_certify::Verdict;
+use ttx_certify::{All, AtOnce, Verdict, certify_passes};
 use ttx_cycle::Counted;
-use ttx_deadline::RequiredVerdict;
-use ttx_late::LateVerdict;
-use ttx_subpages::NumbersVerdict;
+use ttx_deadline::{Required, RequiredVerdict};
+use ttx_files::{Judge, answer_files};
+use ttx_late::{Late, LateVerdict};
+use ttx_records::{certify_passes_json, objects};
+use ttx_subpages::{ByNumber, NumbersVerdict};
 
 /// What a cycle is judged for.
 #[derive(Clone, Copy)]
@@ -35,43 +36,77 @@ pub enum Judgement {
     Within(u32),
 }
 
-/// 0 for a yes, 1 for a no.
-pub(super) fn verdict_status(verdict: Verdict) -> u8
-    ensures { result ≡ verdict_status verdict }
-{
-    match verdict {
-        Verdict::Yes => 0,
-        Verdict::No(_) => 1,
+/// A verdict with its status: 0 for a yes, 1 for a no.
+pub(super) trait Status {
+    ghost status: { Self → ℕ };
+
+    /// The status.
+    fn status(&self) -> u8
+        ensures { result ≡ status self.now };
+}
+
+impl Status for Verdict {
+    ghost status = { verdict_status };
+
+    fn status(&self) -> u8 {
+        match self {
+            Verdict::Yes => 0,
+            Verdict::No(_) => 1,
+        }
     }
 }
 
-/// 0 for a yes, 1 for a no.
-pub(super) fn late_status(verdict: LateVerdict) -> u8
-    ensures { result ≡ late_status verdict }
-{
-    match verdict {
-        LateVerdict::Yes { gap: _ } => 0,
-        LateVerdict::No(_) | LateVerdict::NeverShown { page: _, slot: _ } => 1,
+impl Status for LateVerdict {
+    ghost status = { late_status };
+
+    fn status(&self) -> u8 {
+        match self {
+            LateVerdict::Yes { gap: _ } => 0,
+            LateVerdict::No(_) | LateVerdict::NeverShown { page: _, slot: _ } => 1,
+        }
     }
 }
 
-/// 0 for a yes, 1 for a no.
-pub(super) fn numbers_status(verdict: NumbersVerdict) -> u8
-    ensures { result ≡ numbers_status verdict }
-{
-    match verdict {
-        NumbersVerdict::Yes { gap: _ } => 0,
-        NumbersVerdict::No(_) | NumbersVerdict::Lacking(_) => 1,
+impl Status for NumbersVerdict {
+    ghost status = { numbers_status };
+
+    fn status(&self) -> u8 {
+        match self {
+            NumbersVerdict::Yes { gap: _ } => 0,
+            NumbersVerdict::No(_) | NumbersVerdict::Lacking(_) => 1,
+        }
     }
 }
 
-/// 0 for a yes, 1 for a no.
-pub(super) fn required_status(verdict: RequiredVerdict) -> u8
-    ensures { result ≡ required_status verdict }
+impl Status for RequiredVerdict {
+    ghost status = { required_status };
+
+    fn status(&self) -> u8 {
+        match self {
+            RequiredVerdict::Yes => 0,
+            RequiredVerdict::No(_) | RequiredVerdict::Unmet(_) => 1,
+        }
+    }
+}
+
+// Reads the files of a claim, writes what a judge says of them, and gives the status of the verdict.
+fn answer<J: Judge, A: Read, B: Read, C: Read, W: Write>(
+    alloc: Global,
+    judge: &J,
+    claim: &mut Claim<A, B, C>,
+    writer: &mut Counted<W>,
+) -> Result<u8, ToolFault>
+where
+    J::Verdict: Status,
+    ensures bytes { AnswersClaim J.Verdict.status (J.says judge.now) A.remaining B.remaining C.remaining claim.old
+        (W.contents (inner_of writer.old)) (W.contents (inner_of writer.new)) result }
+    ensures faults { IsFirstFailure (claim_devices A.remaining B.remaining C.remaining claim.old claim.new writer.old writer.new) (failed_at result) }
+    ensures untouched { IsUntouched is_tool_write result writer.old writer.new }
 {
-    match verdict {
-        RequiredVerdict::Yes => 0,
-        RequiredVerdict::No(_) | RequiredVerdict::Unmet(_) => 1,
+    let (cycle, service) = (&mut claim.cycle, &mut claim.service);
+    match answer_files(alloc, judge, cycle, service, &mut claim.certificate, writer) {
+        Ok(verdict) => Ok(verdict.status()),
+        Err(fault) => Err(ToolFault::Files(fault)),
     }
 }
 
@@ -93,18 +128,16 @@ pub fn run<A: Read, B: Read, C: Read, W: Write>(
     ensures untouched { IsUntouched is_tool_write result writer.old writer.new }
 {
     match (json, judgement) {
-        (false, Judgement::AtOnce) => certify_lines::at_once(alloc, claim, writer),
-        (false, Judgement::All) => certify_lines::all(alloc, claim, writer),
-        (false, Judgement::Late) => certify_lines::late(alloc, claim, writer),
-        (false, Judgement::Numbers) => certify_lines::numbers(alloc, claim, writer),
-        (false, Judgement::Within(required)) => certify_lines::within(
-            alloc, claim, required, writer,
-        ),
-        (true, Judgement::AtOnce) => certify_json::at_once(alloc, claim, writer),
-        (true, Judgement::All) => certify_json::all(alloc, claim, writer),
-        (true, Judgement::Late) => certify_json::late(alloc, claim, writer),
-        (true, Judgement::Numbers) => certify_json::numbers(alloc, claim, writer),
-        (true, Judgement::Within(required)) => certify_json::within(alloc, claim, required, writer),
+        (false, Judgement::AtOnce) => answer(alloc, &AtOnce, claim, writer),
+        (false, Judgement::All) => answer(alloc, &All, claim, writer),
+        (false, Judgement::Late) => answer(alloc, &Late, claim, writer),
+        (false, Judgement::Numbers) => answer(alloc, &ByNumber, claim, writer),
+        (false, Judgement::Within(most)) => answer(alloc, &Required(Some(most)), claim, writer),
+        (true, Judgement::AtOnce) => answer(alloc, &objects::AtOnce, claim, writer),
+        (true, Judgement::All) => answer(alloc, &objects::All, claim, writer),
+        (true, Judgement::Late) => answer(alloc, &objects::Late, claim, writer),
+        (true, Judgement::Numbers) => answer(alloc, &objects::ByNumber, claim, writer),
+        (true, Judgement::Within(most)) => answer(alloc, &objects::Required(most), claim, writer),
     }
 }
 
@@ -128,9 +161,17 @@ pub fn run_twice<A: Read, B: Read, C: Read, D: Read, W: Write>(
         writer.old writer.new) (failed_at result) }
     ensures untouched { IsUntouched is_tool_write result writer.old writer.new }
 {
+    let (second, service) = (&mut claim.cycle, &mut claim.service);
+    let certificate = &mut claim.certificate;
     if json {
-        certify_json::twice(alloc, first, claim, writer)
+        match certify_passes_json(alloc, first, second, service, certificate, writer) {
+            Ok(verdict) => Ok(verdict.status()),
+            Err(fault) => Err(ToolFault::Files(fault)),
+        }
     } else {
-        certify_lines::twice(alloc, first, claim, writer)
+        match certify_passes(alloc, first, second, service, certificate, writer) {
+            Ok(verdict) => Ok(verdict.status()),
+            Err(fault) => Err(ToolFault::Files(fault)),
+        }
     }
 }

@@ -12,7 +12,7 @@ ghost use Rattle.ttx_tool.specs.Devices.{is_tool_write, Fails, Reads, read_from,
 ghost use Rattle.ttx_tool.specs.Reports.{Reports};
 ghost use Rattle.ttx_tool.specs.Report.{ReadsDefined, ReadsSealed, ReadsFiling, TellsReport, ReportsText, ReportsFiles};
 
-use super::certify::verdict_status;
+use super::certify::Status;
 use super::promised::{Promised, define};
 use super::reports::write_text;
 use super::version::VERSION;
@@ -135,7 +135,7 @@ fn tell(alloc: Global, filed: &Filed, date: Option<&str>) -> Result<Told<u8>, No
     };
     let report = report(alloc, &filing, &imprint)?;
     Ok(Told {
-        verdict: verdict_status(report.verdict),
+        verdict: report.verdict.status(),
         line: report.text,
     })
 }

@@ -16,5 +16,5 @@ returns c =
       verdict = r.verdict;
       told = subst (λ ps. IsReport (slots_of f.cycle) f.promised.service (map promise_view ps) (fields_of f.certificate) r.verdict (marks_view f.marks)
           version_text (option_map (λ d. d.now) c.args.date) (string_bytes r.text)) c.deref.ensures.value c.in_ok-report.ensures;
-      status_is = c.verdict_status.ensures;
+      status_is = c.status.ensures;
     }
