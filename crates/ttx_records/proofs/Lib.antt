@@ -1,3 +1,2 @@
 mod AbsentPages
 mod SixMembers
-mod TwoFiles

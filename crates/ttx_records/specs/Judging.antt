@@ -4,10 +4,7 @@
 --   IsLateRecorded          for those that show pages late
 --   IsRequiredRecorded      with a deadline that is required
 --   IsNumbersRecorded       for viewers who key page numbers alone
---   CertifiesJson, CertifiesAllJson, CertifiesLateJson, CertifiesRequiredJson, CertifiesNumbersJson     what has been written, for each answer
-use Rattle.std.specs.Prelude.{◌≡◌, ℕ, List, length, Option, Result}
-use Rattle.ttx_files.specs.Judging as files
-use Rattle.ttx_files.specs.declared.faults.FilesFault.{FilesFault}
+use Rattle.std.specs.Prelude.{◌≡◌, ℕ, List, length, Option}
 use Rattle.ttx_source.specs.Services.{ServiceFields, pages_of}
 use Rattle.ttx_certificate.specs.Entries.{CertificateFields, certificate_at}
 use Rattle.ttx_certify.specs.AllReasons.{AreReasons}
@@ -59,18 +56,3 @@ pub record IsNumbersRecorded (slots : List (List ℕ)) (service : ServiceFields)
   pub reports : List NumberReport
   pub are : AreReports (repeated slots) (pages_of service) reports
   pub text_is : text ≡ numbers_record w (length service.pages) reports verdict
-
-abbrev pub CertifiesJson : List ℕ → List ℕ → List ℕ → Option (List ℕ) → Option (List ℕ) → Result Verdict FilesFault → Type 0
-CertifiesJson = files.AnswersFiles IsRecorded
-
-abbrev pub CertifiesAllJson : List ℕ → List ℕ → List ℕ → Option (List ℕ) → Option (List ℕ) → Result Verdict FilesFault → Type 0
-CertifiesAllJson = files.AnswersFiles IsAllRecorded
-
-abbrev pub CertifiesLateJson : List ℕ → List ℕ → List ℕ → Option (List ℕ) → Option (List ℕ) → Result LateVerdict FilesFault → Type 0
-CertifiesLateJson = files.AnswersFiles IsLateRecorded
-
-abbrev pub CertifiesRequiredJson : List ℕ → List ℕ → List ℕ → Option ℕ → Option (List ℕ) → Option (List ℕ) → Result RequiredVerdict FilesFault → Type 0
-CertifiesRequiredJson a b c required = files.AnswersFiles (λ slots service w. IsRequiredRecorded slots service w required) a b c
-
-abbrev pub CertifiesNumbersJson : List ℕ → List ℕ → List ℕ → Option (List ℕ) → Option (List ℕ) → Result NumbersVerdict FilesFault → Type 0
-CertifiesNumbersJson = files.AnswersFiles IsNumbersRecorded

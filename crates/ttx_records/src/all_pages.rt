@@ -50,7 +50,7 @@ fn push_all(alloc: Global, text: &mut String, pages: &[PageReason]) -> Result<()
     push_count(alloc, text, pages)
 }
 
-/// The objects of a verdict and of the first reason of each page: those of the lines of `certify_files_all`.
+/// The objects of a verdict and of the first reason of each page: those of the lines of `ttx_certify::All`.
 pub fn all_records(
     alloc: Global,
     certificate: &Certificate,

@@ -1,6 +1,6 @@
 //! Verdicts of `certify --late`.
 
-ghost use Rattle.std.specs.Prelude.{◌≡◌, ◌++◌, IfOk, OnOk, string_bytes};
+ghost use Rattle.std.specs.Prelude.{◌≡◌, ◌++◌, IfOk, OnOk, length, string_bytes};
 ghost use Rattle.ttx_certificate.specs.Certificates.{fields_of};
 ghost use Rattle.ttx_records.specs.Names.{line};
 ghost use Rattle.ttx_records.specs.LateVerdicts as rule;
@@ -10,6 +10,7 @@ use crate::verdicts::{named, push_at_slot, push_reason};
 use std::alloc::{AllocError, Global};
 use ttx_json::{count, push_object, word};
 use ttx_late::LateVerdict;
+use ttx_source::Service;
 use ttx_witness::Certificate;
 
 // Adds a yes for so many pages.
@@ -55,16 +56,17 @@ pub fn push_late_verdict(
     }
 }
 
-/// The object of a verdict on so many pages.
+/// The object of a verdict on the pages of a service.
 pub fn late_record(
     alloc: Global,
+    service: &Service,
     certificate: &Certificate,
-    pages: usize,
-    verdict: LateVerdict,
+    verdict: &LateVerdict,
 ) -> Result<String, AllocError>
-    ensures { IfOk result (λ text. string_bytes text ≡ rule.late_record (fields_of certificate.now) pages verdict) }
+    ensures { IfOk result (λ text. string_bytes text ≡ rule.late_record (fields_of certificate.now) (length service.now.pages) verdict.now) }
 {
+    let pages = service.pages().len();
     let mut text = String::new(alloc);
-    push_late_verdict(alloc, &mut text, certificate, pages, verdict)?;
+    push_late_verdict(alloc, &mut text, certificate, pages, *verdict)?;
     Ok(text)
 }

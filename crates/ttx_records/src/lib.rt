@@ -3,14 +3,13 @@
 
 mod all_pages;
 mod counters;
-mod files;
 mod item_reports;
 mod item_waits;
-mod judges;
 mod late_verdicts;
 mod names;
 mod number_waits;
 mod numbers;
+pub mod objects;
 mod passes;
 mod requirements;
 mod verdicts;
@@ -18,10 +17,6 @@ mod wait_reports;
 mod waits;
 
 pub use counters::{counter_record, none_record};
-pub use files::{
-    certify_files_all_json, certify_files_json, certify_files_late_json,
-    certify_files_numbers_json, certify_files_required_json,
-};
 pub use item_reports::report_item_waits;
 pub use number_waits::report_number_waits;
 pub use passes::certify_passes_json;

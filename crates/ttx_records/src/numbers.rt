@@ -1,6 +1,6 @@
 //! Verdicts of `certify --numbers`.
 
-ghost use Rattle.std.specs.Prelude.{◌≡◌, ◌+◌, ◌++◌, IfOk, OnOk, string_bytes};
+ghost use Rattle.std.specs.Prelude.{◌≡◌, ◌+◌, ◌++◌, IfOk, OnOk, length, string_bytes};
 ghost use Rattle.ttx_certificate.specs.Certificates.{certificate_of, fields_of};
 ghost use Rattle.ttx_certificate.specs.NamedStarts.{limit};
 ghost use Rattle.ttx_numbers.specs.Numbers.{number_text};
@@ -16,6 +16,7 @@ use ttx_json::{count, push_object, word};
 use ttx_late::LateVerdict;
 use ttx_numbers::push_number;
 use ttx_page::Item;
+use ttx_source::Service;
 use ttx_subpages::{Lack, NumberReport, NumbersVerdict};
 use ttx_witness::Certificate;
 
@@ -139,18 +140,20 @@ fn push_lack(alloc: Global, text: &mut String, lack: Lack) -> Result<(), AllocEr
     }
 }
 
-/// The object of a verdict on so many pages, and one for each number in `reports` behind a yes.
+/// The object of a verdict on the pages of a service, and one for each number in `reports` behind a yes.
 pub fn numbers_record(
     alloc: Global,
+    service: &Service,
     certificate: &Certificate,
-    pages: usize,
     reports: &[NumberReport],
-    verdict: NumbersVerdict,
+    verdict: &NumbersVerdict,
 ) -> Result<String, AllocError>
-    ensures { IfOk result (λ text. string_bytes text ≡ rule.numbers_record (fields_of certificate.now) pages reports.now verdict) }
+    ensures { IfOk result (λ text. string_bytes text
+        ≡ rule.numbers_record (fields_of certificate.now) (length service.now.pages) reports.now verdict.now) }
 {
+    let pages = service.pages().len();
     let mut text = String::new(alloc);
-    match verdict {
+    match *verdict {
         NumbersVerdict::Yes { gap } => {
             push_yes(alloc, &mut text, certificate, pages, gap)?;
             push_numbers(alloc, &mut text, within(certificate, gap), reports)?;

@@ -2,44 +2,16 @@
 
 ghost use Rattle.std.specs.Prelude.{◌∷◌, [], IfOk, IfSome};
 ghost use Rattle.ttx_cycle.specs.Counters.{inner_of, faults_of};
-ghost use Rattle.ttx_certificate.specs.Certificates.{fields_of};
-ghost use Rattle.ttx_certify.specs.CertifyingPasses.{WalksFiles};
 ghost use Rattle.ttx_files.specs.Answers.{IsUntouched, is_write};
 ghost use Rattle.ttx_files.specs.Devices.{AtCycle, AtService, AtCertificate, input, output, failed_at, IsRight, IsFirstFailure};
 ghost use Rattle.ttx_records.specs.Passes.{RecordsPasses, CertifiesPassesJson};
 
-use crate::judges::text_of;
+use crate::verdicts::verdict_record;
 use std::alloc::Global;
 use std::io::{Read, Write};
-use ttx_certify::{Verdict, Walk};
+use ttx_certify::{Verdict, walk_files};
 use ttx_cycle::Counted;
-use ttx_files::{FilesFault, Texts, Told, read_slots, read_texts, write_told};
-
-// The verdict of a walk over two packet files.
-fn walk_files<A: Read, B: Read>(
-    alloc: Global,
-    texts: &Texts,
-    first: &mut Counted<A>,
-    second: &mut Counted<B>,
-) -> Result<Verdict, FilesFault>
-    ensures bytes { IfSome (A.remaining (inner_of first.old)) (λ a.
-        IfSome (B.remaining (inner_of second.old)) (λ b. WalksFiles a b texts.now.service (fields_of texts.now.certificate) result)) }
-    ensures right { IfOk result (λ _. IsRight AtCycle (A.remaining (inner_of first.old)) × IsRight AtCycle (B.remaining (inner_of second.old))) }
-    ensures faults { IsFirstFailure (input AtCycle (A.remaining (inner_of first.old)) (faults_of first.old) (faults_of first.new)
-        ∷ input AtCycle (B.remaining (inner_of second.old)) (faults_of second.old) (faults_of second.new) ∷ []) (failed_at result) }
-{
-    let Ok(mut walk) = Walk::new(alloc, texts.service.pages(), &texts.certificate) else {
-        return Err(FilesFault::NoMemory);
-    };
-    if let Err(fault) = read_slots(first, &mut walk) {
-        return Err(fault);
-    }
-    let mut passed = walk.begin_second();
-    match read_slots(second, &mut passed) {
-        Ok(()) => Ok(passed.finish()),
-        Err(fault) => Err(fault),
-    }
-}
+use ttx_files::{FilesFault, Told, read_texts, write_told};
 
 // Reads the four inputs and judges them.
 fn judge_passes<A: Read, B: Read, C: Read, D: Read>(
@@ -68,8 +40,7 @@ fn judge_passes<A: Read, B: Read, C: Read, D: Read>(
         Ok(verdict) => verdict,
         Err(fault) => return Err(fault),
     };
-    let pages = texts.service.pages().len();
-    match text_of(alloc, &texts.certificate, pages, &verdict) {
+    match verdict_record(alloc, &texts.service, &texts.certificate, &verdict) {
         Ok(line) => Ok(Told { verdict, line }),
         Err(_) => Err(FilesFault::NoMemory),
     }

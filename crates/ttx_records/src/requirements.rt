@@ -1,6 +1,6 @@
 //! Verdicts of `certify --within`.
 
-ghost use Rattle.std.specs.Prelude.{◌≡◌, ◌++◌, IfOk, OnOk, string_bytes};
+ghost use Rattle.std.specs.Prelude.{◌≡◌, ◌++◌, IfOk, OnOk, length, string_bytes};
 ghost use Rattle.ttx_certificate.specs.Certificates.{fields_of};
 ghost use Rattle.ttx_records.specs.Names.{line};
 ghost use Rattle.ttx_records.specs.Requirements as rule;
@@ -9,6 +9,7 @@ use crate::verdicts::{push_reason, push_yes};
 use std::alloc::{AllocError, Global};
 use ttx_deadline::{RequiredVerdict, Unmet};
 use ttx_json::{count, push_object, word};
+use ttx_source::Service;
 use ttx_witness::Certificate;
 
 // Adds a rejection for a number that is not as required.
@@ -86,16 +87,17 @@ fn push_required(
     }
 }
 
-/// The object of a verdict on so many pages.
+/// The object of a verdict on the pages of a service.
 pub fn required_record(
     alloc: Global,
+    service: &Service,
     certificate: &Certificate,
-    pages: usize,
-    verdict: RequiredVerdict,
+    verdict: &RequiredVerdict,
 ) -> Result<String, AllocError>
-    ensures { IfOk result (λ text. string_bytes text ≡ rule.required_record (fields_of certificate.now) pages verdict) }
+    ensures { IfOk result (λ text. string_bytes text ≡ rule.required_record (fields_of certificate.now) (length service.now.pages) verdict.now) }
 {
+    let pages = service.pages().len();
     let mut text = String::new(alloc);
-    push_required(alloc, &mut text, certificate, pages, verdict)?;
+    push_required(alloc, &mut text, certificate, pages, *verdict)?;
     Ok(text)
 }

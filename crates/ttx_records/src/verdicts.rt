@@ -1,6 +1,6 @@
 //! Verdicts of `certify`.
 
-ghost use Rattle.std.specs.Prelude.{◌≡◌, ◌++◌, [], IfOk, OnOk, string_bytes, codes};
+ghost use Rattle.std.specs.Prelude.{◌≡◌, ◌++◌, [], IfOk, OnOk, length, string_bytes, codes};
 ghost use Rattle.ttx_certificate.specs.Certificates.{fields_of};
 ghost use Rattle.ttx_records.specs.Names.{line};
 ghost use Rattle.ttx_records.specs.Verdicts as rule;
@@ -11,6 +11,7 @@ use ttx_certify::Verdict;
 use ttx_header::PageId;
 use ttx_json::{count, push_object, word};
 use ttx_page::Item;
+use ttx_source::Service;
 use ttx_witness::{Certificate, Reason};
 
 /// A number, and the name that belongs to it.
@@ -252,16 +253,17 @@ pub fn push_verdict(
     }
 }
 
-/// The object of a verdict on so many pages.
+/// The object of a verdict on the pages of a service.
 pub fn verdict_record(
     alloc: Global,
+    service: &Service,
     certificate: &Certificate,
-    pages: usize,
-    verdict: Verdict,
+    verdict: &Verdict,
 ) -> Result<String, AllocError>
-    ensures { IfOk result (λ text. string_bytes text ≡ rule.verdict_record (fields_of certificate.now) pages verdict) }
+    ensures { IfOk result (λ text. string_bytes text ≡ rule.verdict_record (fields_of certificate.now) (length service.now.pages) verdict.now) }
 {
+    let pages = service.pages().len();
     let mut text = String::new(alloc);
-    push_verdict(alloc, &mut text, certificate, pages, verdict)?;
+    push_verdict(alloc, &mut text, certificate, pages, *verdict)?;
     Ok(text)
 }
