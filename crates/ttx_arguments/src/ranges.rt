@@ -4,77 +4,46 @@ ghost use Rattle.std.specs.Prelude.{◌≡◌, ◌≤◌, ◌≤ℤ◌, ◌*ℤ�
 
 use std::marker::Model;
 
-/// How many lines of a field carry teletext, 1 to 32.
+/// A number from 1 to `MOST`.
 #[derive(Clone, Copy)]
-pub struct Lines {
+pub struct UpTo<const MOST: u8> {
     count: u8,
 }
 
-impl Model for Lines {
+/// How many lines of a field carry teletext, 1 to 32.
+pub type Lines = UpTo<32>;
+
+/// The repeat count, 1 to 8: of so many successive transmissions of a character at least one is received right.
+pub type Repeat = UpTo<8>;
+
+impl<const MOST: u8> Model for UpTo<MOST> {
     ghost use Rattle.std.specs.Prelude.{◌≤◌, ℕ};
 
     ghost Value = { ℕ };
 
-    ghost view = { λ l. l.count };
+    ghost view = { λ n. n.count };
 
     ghost inverse = { λ n. record { count = n } };
 
-    ghost invariant = { λ l. (1 ≤ l.count) × (l.count ≤ 32) };
+    ghost invariant = { λ n. (1 ≤ n.count) × (n.count ≤ MOST) };
 }
 
-impl Lines {
-    // So many lines.
-    pub(crate) fn new(count: u8) -> Lines
-        requires { (1 ≤ count) × (count ≤ 32) }
+impl<const MOST: u8> UpTo<MOST> {
+    // So many.
+    pub(crate) fn new(count: u8) -> UpTo<MOST>
+        requires { (1 ≤ count) × (count ≤ MOST) }
         ensures { result ≡ count }
     {
-        Lines { count }
+        UpTo { count }
     }
 
-    /// The number of lines, 1 to 32.
+    /// The number, 1 to `MOST`.
     pub fn count(&self) -> u8
         ensures value { result ≡ self.now }
         ensures from { 1 ≤ result }
-        ensures to { result ≤ 32 }
+        ensures to { result ≤ MOST }
     {
         self.count
-    }
-}
-
-/// The repeat count, 1 to 8: of so many successive transmissions of a character at least one is received right.
-#[derive(Clone, Copy)]
-pub struct Repeat {
-    times: u8,
-}
-
-impl Model for Repeat {
-    ghost use Rattle.std.specs.Prelude.{◌≤◌, ℕ};
-
-    ghost Value = { ℕ };
-
-    ghost view = { λ r. r.times };
-
-    ghost inverse = { λ n. record { times = n } };
-
-    ghost invariant = { λ r. (1 ≤ r.times) × (r.times ≤ 8) };
-}
-
-impl Repeat {
-    // So many transmissions.
-    pub(crate) fn new(times: u8) -> Repeat
-        requires { (1 ≤ times) × (times ≤ 8) }
-        ensures { result ≡ times }
-    {
-        Repeat { times }
-    }
-
-    /// The number of transmissions, 1 to 8.
-    pub fn count(&self) -> u8
-        ensures value { result ≡ self.now }
-        ensures from { 1 ≤ result }
-        ensures to { result ≤ 8 }
-    {
-        self.times
     }
 }
 
