@@ -139,6 +139,7 @@ fn first_turn(
 }
 
 // The first places of a list.
+#[tactic(auto, using(std::proofs::lemmas::List::take_min))]
 fn front(places: &[usize]) -> &[usize]
     ensures { result.now ≡ take 64 places.now }
 {
