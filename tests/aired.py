@@ -1,7 +1,8 @@
 #!/usr/bin/env python3
 """Puts services on the air, changes their texts meanwhile, and compares what `air` writes, byte for byte, and its log, line for line, with a
 plain head-end in this script. The texts that are saved are good ones, with each kind of refusal between two of them. An author's text is
-composed by `compose` first. Each airing is then replayed from its log.
+composed by `compose` first. Where an item would come too late through a change, the plain head-end begins the cycle elsewhere by its own reckoning.
+Each airing is then replayed from its log.
 
 usage: aired.py PROGRAM
 
@@ -9,6 +10,7 @@ The service is a named pipe first, another one for each time that `air` looks at
 is a file, which is replaced, and goes away and comes back: the pipe of the packets is made as small as it can be, so at most 225 slots are on
 their way; the file is changed when the end of a period has gone by, and the next one is farther away than that.
 """
+import copy
 import datetime
 import fcntl
 import hashlib
@@ -22,7 +24,9 @@ import threading
 import time
 from pathlib import Path
 
-from sent import timed, zone_file
+sys.dont_write_bytecode = True
+from plain_receiver import packet_in  # noqa: E402
+from sent import timed, zone_file  # noqa: E402
 
 TOP = Path(__file__).resolve().parent.parent
 PIPE = 4096
@@ -122,8 +126,44 @@ def spliced(old, new, deadline):
         service.certified(deadline)
         for end in "toml", "t42", "cert":
             os.replace(folder / f"text.{end}", folder / f"{name}.{end}")
-    said = ran(old.program, folder, "splice", "old.t42", "new.t42", "old.toml", "new.toml", "old.cert", "new.cert").stdout
+    words = ["old.t42", "new.t42", "old.toml", "new.toml", "old.cert", "new.cert", *old.late]
+    said = ran(old.program, folder, "splice", *words).stdout
     return None if said == "yes\n" else said
+
+
+def page_begun(slot):
+    """The page whose header is in the slot; None if it has none, or a time-filling one."""
+    kind, _, more = packet_in(slot)
+    return more[0] if kind == "header" and more[0][1:] != (0xFF, 0x3F7F) else None
+
+
+def unfollowed(old, new, gap):
+    """The reason why a page of the old service is not followed by another page number in time; or None."""
+    for number, sub in old.ids:
+        page = int(number[:1]), int(number[1:], 16), int(sub or b"0", 16)
+        back, last = next(((back, page) for back, page in headers(reversed(old.slots), page[0])), (0, None))
+        if last != page:
+            continue
+        at, first = next(iter(headers(new.slots, page[0])), (0, page))
+        if first[1] == page[1] or at + back >= gap:
+            return f"no 9 unfollowed {page[0]}{page[1]:02X}/{page[2]:04X}"
+    return None
+
+
+def headers(slots, magazine):
+    """The headers of a magazine, each with its slot."""
+    packets = ((at, *packet_in(slot)) for at, slot in enumerate(slots))
+    return ((at, more[0]) for at, kind, mag, more in packets if kind == "header" and mag == magazine)
+
+
+def turns(old, new):
+    """The new service with its cycle begun at each of its other page headers: first at those with which the old cycle begins again, at most 64."""
+    first = next(filter(None, map(page_begun, old.slots)))
+    begun = [(at, page) for at, page in enumerate(map(page_begun, new.slots)) if at and page]
+    for at in ([at for at, page in begun if page == first] + [at for at, page in begun if page != first])[:64]:
+        turned = copy.copy(new)
+        turned.slots = new.slots[at:] + new.slots[:at]
+        yield turned
 
 
 def pages(count):
@@ -228,11 +268,29 @@ def short_texts():
     return [f'lines = 2\nserial = true\n[[page]]\nnumber = "100"\nhead = "{head}"\n'.encode() for head in ("one", "two", "two", "three", "one")]
 
 
+def ordered(pages):
+    """A text with pages in this order, each full."""
+    return ("lines = 2\nserial = true\n" + "".join(f'[[page]]\nnumber = "{page:03X}"\n' for page in pages)).encode()
+
+
 def late_texts():
     """Two good texts, and one between them that only late receivers refuse: the last page of magazine 1 is ended after many pages of magazine 2."""
-    order = list(range(100, 112))
-    texts = order, order[:6] + [page + 100 for page in order[6:]], order[:-1]
-    return [("lines = 2\nserial = true\n" + "".join(f'[[page]]\nnumber = "{page}"\n' for page in pages)).encode() for pages in texts]
+    order = list(range(0x100, 0x10C))
+    return [ordered(pages) for pages in (order, order[:6] + [page + 0x100 for page in order[6:]], order[:-1])]
+
+
+def moved_texts():
+    """Pages that the author moves from the front to the end, so that a cycle follows only if it begins with them. Then the other way round, and no
+    cycle follows."""
+    order = list(range(0x100, 0x10C))
+    return [ordered(pages) for pages in (order, order[1:] + order[:1], order[3:] + order[:3], order[-2::-1] + order[-1:], order)]
+
+
+def last_turns():
+    """The first page gives way to another one, with which the cycle has to begin. It is the 64th turn, and then the next one, which is not tried."""
+    first, order = 0x100, list(range(0x101, 0x164))
+    changed = [[*order[at:], 0x164, *order[:at]] for at in (35, 34)]
+    return [ordered(pages) for pages in ([first, *order], changed[0], [first, *order], changed[1])]
 
 
 def author_texts():
@@ -293,6 +351,37 @@ def slow_words(first, within):
     return too_slow(first, within + -first.gap() // first.lines)
 
 
+def refusal(head_end, service):
+    """The reason why the service does not follow the one on the air, or None."""
+    reason = spliced(head_end.service, service, head_end.deadline)
+    if reason is None and service.late:
+        service.certified()
+        if service.gap() > head_end.gap:
+            reason = f"no 8 too-far {service.gap()}"
+        else:
+            reason = unfollowed(head_end.service, service, head_end.gap)
+    return reason
+
+
+def suits(head_end, turned):
+    """Whether a service that begins elsewhere follows, and does not end amid a page."""
+    if refusal(head_end, turned) is not None:
+        return False
+    return not turned.late or "amid" not in (spliced(turned, turned, head_end.deadline) or "")
+
+
+def change(head_end, service):
+    """The service takes over as it is planned, or begun elsewhere if only an item is late."""
+    reason = refusal(head_end, service)
+    follows = service if reason is None else None
+    if reason is not None and reason.startswith("no 5 "):
+        follows = next((turned for turned in turns(head_end.service, service) if suits(head_end, turned)), None)
+    if follows:
+        head_end.take(follows)
+    else:
+        head_end.keep(service.mark, reason.rstrip("\n"))
+
+
 def news(head_end, text):
     """What the plain head-end does with the text that it finds; None is a file that cannot be read."""
     if text is None:
@@ -315,15 +404,7 @@ def news(head_end, text):
     elif service.certified() > head_end.deadline:
         head_end.keep(service.mark, "late " + too_slow(service, head_end.deadline))
     else:
-        reason = spliced(head_end.service, service, head_end.deadline)
-        if reason is None and service.late:
-            service.certified()
-            if service.gap() > head_end.gap:
-                reason = f"no 8 too-far {service.gap()}"
-        if reason is None:
-            head_end.take(service)
-        else:
-            head_end.keep(service.mark, reason.rstrip("\n"))
+        change(head_end, service)
 
 
 def different(head_end, stream, status, errors):
@@ -416,6 +497,13 @@ def wrong_air(program, folder, texts, within, late, periods, clock=MIDNIGHT):
     return said or wrong_replay(program, folder, texts, got["out"])
 
 
+def wrong_turns(program, folder, texts, late, periods):
+    """The same of texts with which each item comes in time, but not through a change with the cycle that is planned."""
+    first = Service(program, folder, texts[0], late)
+    within = first.certified() + -(-first.gap() // first.lines) + 4
+    return wrong_air(program, folder, texts, within, late, periods)
+
+
 def wrong_file(program, folder, texts, within):
     """What is wrong with an airing over a file that has these texts, where None is no file; or None."""
     path = folder / "service.toml"
@@ -484,6 +572,9 @@ def main():
             lambda: wrong_air(program, folder, steps(base), 250, False, 60),
             lambda: wrong_air(program, folder, [base, moved_page(base), moved_page(base), base], 130, False, 12),
             lambda: wrong_air(program, folder, late_texts(), 240, True, 8),
+            lambda: wrong_turns(program, folder, moved_texts(), True, 14),
+            lambda: wrong_turns(program, folder, moved_texts(), False, 14),
+            lambda: wrong_turns(program, folder, last_turns(), False, 11),
             lambda: wrong_air(program, folder, short_texts(), 100, True, 100),
             lambda: wrong_air(program, folder, author_texts(), 100, True, 100),
             lambda: wrong_file(program, folder, [base, None, None, steps(base)[2], base], 250),

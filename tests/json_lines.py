@@ -16,8 +16,6 @@ import cases
 
 # the commands with --json, each with the least number of cases that are compared
 COMMANDS = {"certify": 100, "check": 40, "monitor": 35, "wait": 20, "refute": 8, "pages": 6}
-# options that do not go with --json
-APART = {"monitor": {b"--all", b"--every"}}
 # options whose plain lines have all that the objects have; they are left out with --json
 PLAIN = {"check": b"--long"}
 # what follows the item in the line of a reason
@@ -139,8 +137,12 @@ def check_lines(lines):
 
 def monitor_line(line):
     words = line.split()
-    if words[0] == "yes":
-        return {"answer": "yes"} | numbers(words[1:])
+    if words[0] == "slots":
+        return {"answer": "state"} | numbers(words)
+    if words[0] == "total":
+        return {"answer": "total"} | numbers(words[1:5]) | {f"minute_{name}": number for name, number in numbers(words[6:]).items()}
+    if words[0] == "yes" or words[1] == "start":
+        return {"answer": words[0]} | numbers(words[1:])
     if line == "no slots: no teletext":
         return {"answer": "no", "how": "no teletext"}
     form = re.fullmatch(r"no slots: packets of (\d+) bytes(?:; skip (\d+) at the start)?(; reverse the bits of each byte)?"
@@ -148,10 +150,10 @@ def monitor_line(line):
     if form:
         return {"answer": "no", "how": "packets", "bytes": int(form[1]), "skip": int(form[2] or 0), "reversed": bool(form[3]),
                 "drop": int(form[4] or 0)}
-    start = {"start": int(words[-1])}
+    start = numbers(words[-2:]) if words[-2] == "start" else {}
     if words[1] == "repeat":
-        item, rest = item_of(words[3:-2])
-        return {"answer": "no", "how": "repeat", "page": words[2], "item": item} | numbers(rest) | start
+        item, rest = item_of(words[3:])
+        return {"answer": "no", "how": "repeat", "page": words[2], "item": item} | numbers(rest)
     members = {"answer": "no", "slot": int(words[2]), "how": words[3]}
     if words[3] == "byte":
         members["byte"] = int(words[4])
@@ -162,8 +164,14 @@ def monitor_line(line):
 
 
 def monitor_lines(lines):
-    """The object of a verdict, with the bytes behind the last slot."""
-    return [monitor_line(lines[0]) | {"rest": int(line.split()[1]) for line in lines[1:]}] if lines else []
+    """An object for each line, and in it the bytes behind the last slot, which have a line of their own."""
+    told = []
+    for line in lines:
+        if line.startswith("rest "):
+            told[-1]["rest"] = int(line.split()[1])
+        else:
+            told.append(monitor_line(line))
+    return told
 
 
 # the objects for the lines of a command
@@ -202,8 +210,7 @@ def main():
     program = os.path.realpath(sys.argv[1])
     chosen = {name: case for name, case in cases.tables().items()
               if name.split("/")[0] in COMMANDS and name.split("/")[0] == cases.words_of(case)[0].decode()
-              and not {"stdout-to", "stderr-to"} & case.keys() and "--json" not in case["run"]
-              and not APART.get(name.split("/")[0], set()) & set(cases.words_of(case))}
+              and not {"stdout-to", "stderr-to"} & case.keys() and "--json" not in case["run"]}
     failed, compared = 0, dict.fromkeys(COMMANDS, 0)
     with concurrent.futures.ThreadPoolExecutor(os.cpu_count()) as pool:
         told = pool.map(lambda name: differences(program, name.split("/")[0], chosen[name]), chosen)

@@ -6,6 +6,10 @@ definitions that it changes, or the mistake. The gate wants such an edit refused
 copy of the crates. Before that, the written proofs of the changed functions are removed from the copy if the search proves the functions
 without them. So the mutant is refused by the contract, and not because a proof written for the original body no longer fits.
 
+A function is proved from the contracts of those that it calls, never from their bodies. So mutants of bodies are tried together, one of each
+function, in one check, and each must be refused at the function that it changes. Where that check says nothing of one of them, that one is
+tried alone, as are mutants of definitions, types and constants.
+
 Each result is written to tools/edits.tsv at once, one line for a mutant: the crate, the edit, the heading, the checksums of the mutant and
 of all that it is tried on (the sources of the crate and of those below it, without comments, and the logic), the verdict, the refused
 function, and how. A later run tries only mutants for which that file has no line with these checksums; --anew tries all. --stale tries
@@ -158,6 +162,38 @@ def is_turned(body, function):
     return any(re.fullmatch(it, function) for it in turned_functions(body))
 
 
+def is_body(body):
+    """Whether a mutant changes nothing but bodies of functions."""
+    for path, old, _ in steps(body.lines):
+        file = pathlib.Path("crates", body.crate, path)
+        if not path.startswith("src/") or not file.is_file():
+            return False
+        text = file.read_text()
+        at = text.find(old)
+        before = text[: text.find("\n", at)].split("\n")
+        first = next((line for line in reversed(before) if ITEM.match(line)), "")
+        is_of_function = re.match(r"\s*(?:pub(?:\([a-z]+\))? )?(?:const |unsafe )?fn ", first)
+        if not is_of_function or re.match(r"\s*(ensures|requires|ghost|pub |fn |impl|#)", old):
+            return False
+    return True
+
+
+def rounds(bodies):
+    """The mutants in groups that are tried together: in a group of several, each changes bodies of functions that no other one changes."""
+    groups, alone = [], []
+    for body in bodies:
+        if not is_body(body):
+            alone.append([body])
+            continue
+        mine = set(turned(body))
+        room = next((group for group in groups if not any(mine & set(turned(it)) for it in group)), None)
+        if room is None:
+            groups.append([body])
+        else:
+            room.append(body)
+    return groups + alone
+
+
 class Room:
     """A copy of the sources in which mutants are tried."""
 
@@ -203,21 +239,24 @@ class Room:
             if not back:
                 return status == 0
 
-    def attempt(self, body):
-        """The verdict on a mutant, the refused function, and how."""
+    def attempt(self, bodies):
+        """The verdict on each of some mutants that are tried together, the refused function, and how; None for one that has to be tried alone."""
         former = {}
-        for path, old, new in steps(body.lines):
-            file = self.crate / path
-            text = file.read_text() if file.is_file() else ""
-            former.setdefault(file, text)
-            if text.count(old) != 1:
-                self.put(former)
-                return "bad", "", f"an old text stands {text.count(old)} times in {path}"
-            file.write_text(text.replace(old, new))
         try:
-            return verdict_of(body, *self.check())
+            for path, old, new in (step for body in bodies for step in steps(body.lines)):
+                file = self.crate / path
+                text = file.read_text() if file.is_file() else ""
+                former.setdefault(file, text)
+                if text.count(old) != 1:
+                    bad = "bad", "", f"an old text stands {text.count(old)} times in {path}"
+                    return [bad if len(bodies) == 1 else None for _ in bodies]
+                file.write_text(text.replace(old, new))
+            told = self.check()
         finally:
             self.put(former)
+        if len(bodies) == 1:
+            return [verdict_of(bodies[0], *told)]
+        return [refused_within(body, *told) for body in bodies]
 
     @staticmethod
     def put(texts):
@@ -246,6 +285,14 @@ def verdict_of(body, status, told):
     gone = [it for it in misfits if NAME_GONE.search(it[1])]
     first = next((it for it in told.split("\n") if ": error" in it), "")
     return ("names gone", *gone[0]) if gone else ("refused elsewhere", "", first)
+
+
+def refused_within(body, status, told):
+    """The result for one of several mutants that were tried together, if the check refuses a function that it changes."""
+    if status == 0 or "logic=not-proved" not in told:
+        return None
+    verdict = verdict_of(body, status, told)
+    return verdict if verdict[0] in ENOUGH and is_turned(body, verdict[1]) else None
 
 
 class Record:
@@ -293,11 +340,12 @@ def try_crate(room, name, bodies, now, record):
         print(f"{name}: not proved as it stands", flush=True)
         return 1
     failed = 0
-    for body in bodies:
-        verdict, function, how = room.attempt(body)
-        record.write(body, over, verdict, function, how)
-        failed += verdict not in ENOUGH
-        print(f"{'' if verdict in ENOUGH else 'FAILED '}{name}/{body.edit}: {body.heading}: {verdict} {function}: {how[:100]}", flush=True)
+    for group in rounds(bodies):
+        for body, told in zip(group, room.attempt(group)):
+            verdict, function, how = told or room.attempt([body])[0]
+            record.write(body, over, verdict, function, how)
+            failed += verdict not in ENOUGH
+            print(f"{'' if verdict in ENOUGH else 'FAILED '}{name}/{body.edit}: {body.heading}: {verdict} {function}: {how[:100]}", flush=True)
     return failed
 
 

@@ -23,9 +23,7 @@ abbrev pub conflicts_of : CommandName → List Conflict
 conflicts_of command.Certify =
     apart argument.CertifyAll argument.Late ∷ apart argument.CertifyAll argument.Numbers ∷ apart argument.CertifyAll argument.Twice
     ∷ apart argument.CertifyAll argument.Within ∷ []
-conflicts_of command.Monitor =
-    apart argument.Rows argument.MonitorAll ∷ apart argument.Rows argument.Every ∷ apart argument.Json argument.MonitorAll
-    ∷ apart argument.Json argument.Every ∷ []
+conflicts_of command.Monitor = apart argument.Rows argument.MonitorAll ∷ apart argument.Rows argument.Every ∷ []
 conflicts_of command.Check = apart argument.Json argument.Long ∷ []
 conflicts_of command.Preview = apart argument.PreviewAll argument.SomePage ∷ []
 conflicts_of command.Air =

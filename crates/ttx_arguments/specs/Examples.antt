@@ -173,7 +173,8 @@ MonitorWords =
     × Asks (ttx_app names) (monitor_texts ++ codes "--every=50" ∷ codes "--rows" ∷ []) (Err (apart (conflicts.apart argument.Rows argument.Every)))
     × Asks (ttx_app names) (monitor_texts ++ codes "--json" ∷ codes "--rows" ∷ [])
     (Ok (monitor_order (codes "c") (codes "s") (codes "k") (codes "-") None false None true true))
-    × Asks (ttx_app names) (monitor_texts ++ codes "--json" ∷ codes "--every=50" ∷ []) (Err (apart (conflicts.apart argument.Json argument.Every)))
+    × Asks (ttx_app names) (monitor_texts ++ codes "--json" ∷ codes "--all" ∷ codes "--every=50" ∷ [])
+    (Ok (monitor_order (codes "c") (codes "s") (codes "k") (codes "-") None true (Some 50) false true))
     × Asks (ttx_app names) (codes "monitor" ∷ codes "-" ∷ codes "s" ∷ codes "k" ∷ codes "-" ∷ []) (Err named_twice)
     × (fault_of (ttx_app names) (monitor_texts ++ codes "--start=65536" ∷ []) ≡ ValueValidation ∷ [])
 

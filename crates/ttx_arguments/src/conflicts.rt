@@ -33,8 +33,6 @@ fn conflicts<'a>(command: CommandName) -> &'a [Conflict]
         CommandName::Monitor => &[
             Conflict { one: Argument::Rows, other: Argument::MonitorAll },
             Conflict { one: Argument::Rows, other: Argument::Every },
-            Conflict { one: Argument::Json, other: Argument::MonitorAll },
-            Conflict { one: Argument::Json, other: Argument::Every },
         ],
         CommandName::Check => &[Conflict { one: Argument::Json, other: Argument::Long }],
         CommandName::Preview => &[Conflict { one: Argument::PreviewAll, other: Argument::SomePage }],

@@ -565,6 +565,7 @@ then rest if there is one, and
       average
 With --every, there is a line of state after every FIELDS fields, for logs:
   slots N wrong B streak W lost L
+With --json these are objects too, and rest is a member of the verdict.
 
 With --rows, the error rule by rows is judged, for receivers that refuse a row
 with a wrong byte. A packet may be lost, except page headers and X/27/0 of a
@@ -581,7 +582,7 @@ Statuses:
   0  yes
   1  no
   2  error: .. (the arguments), refused: twice,
-     refused: --rows with .., refused: --json with .. (--all or --every),
+     refused: --rows with .. (--all or --every),
      refused: cycle NUMBER NAME [REST],
      refused: service NUMBER NAME [KEY] page N, refused: service too-long,
      refused: certificate NUMBER NAME [line N], refused: certificate too-long

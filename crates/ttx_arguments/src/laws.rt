@@ -49,8 +49,8 @@ pub fn wait_words()
     ensures { WaitWords }
 {}
 
-/// `monitor` takes the slot with which the feed begins (none is not 0); the feed is an input. `--all` and `--every` go together, but neither
-/// with `--rows` or `--json`.
+/// `monitor` takes the slot with which the feed begins (none is not 0); the feed is an input. `--all` and `--every` go together and with
+/// `--json`, but neither with `--rows`.
 pub fn monitor_words()
     ensures { MonitorWords }
 {}

@@ -9,11 +9,11 @@
 --   row_members             a row of a page
 --   far_byte, repeated, repeated_row        a byte with two wrong bits; a byte, or a row, that was wrong too often
 --   how_members             a breach
---   with_start              the slot of the cycle with which the feed begins, last
+--   with_start              the slot of the cycle with which the feed begins, last, if it is told
 --   shift_member, shifted_members   a slip: how many slots were lost or inserted, whichever are less
 --   feed_record             a verdict
 --   IsFeedRecorded          the verdict on a feed, and its object
-use Rattle.std.specs.Prelude.{◌≡◌, ℕ, zero, suc, ◌-◌, ◌*◌, nat_lt, if◌then◌else◌, List, [], ◌∷◌, ◌++◌, codes, Option}
+use Rattle.std.specs.Prelude.{◌≡◌, ℕ, zero, suc, ◌-◌, ◌*◌, nat_lt, if◌then◌else◌, List, [], ◌∷◌, ◌++◌, codes, Option, Some, None}
 use Rattle.std.specs.Fmt.{decimal}
 use Rattle.ttx_json.specs.Objects.{Member, word, count, flag, object_line}
 use Rattle.ttx_page.specs.Pages.{Page}
@@ -84,8 +84,9 @@ how_members pages slot Lost = at_slot slot (codes "lost") []
 how_members pages slot (Bits x) = far_byte slot x
 how_members pages slot (Repeated t) = repeated pages slot t
 
-abbrev pub with_start : List Member → ℕ → List Member
-with_start members start = members ++ count (codes "start") start ∷ []
+abbrev pub with_start : List Member → Option ℕ → List Member
+with_start members None = members
+with_start members (Some start) = members ++ count (codes "start") start ∷ []
 
 abbrev pub shift_member : ℕ → ℕ → Member
 shift_member slots by = if nat_lt slots (2 * by) then count (codes "inserted") (slots - by) else count (codes "lost") by
@@ -96,8 +97,8 @@ shifted_members slots slot by = at_slot slot (codes "shifted") (shift_member slo
 abbrev pub feed_record : List Page → FeedVerdict → List ℕ
 feed_record pages (IsUnlike unlike) = line (unlike_members unlike)
 feed_record pages (Yes start slots wrong streak rest) = line (yes_members start slots wrong streak ++ rest_members rest)
-feed_record pages (No start slot breach) = line (with_start (how_members pages slot breach) start)
-feed_record pages (Shifted start slot by slots) = line (with_start (shifted_members slots slot by) start)
+feed_record pages (No start slot breach) = line (with_start (how_members pages slot breach) (Some start))
+feed_record pages (Shifted start slot by slots) = line (with_start (shifted_members slots slot by) (Some start))
 
 -- the verdict on a feed of these bytes, and its object
 pub record IsFeedRecorded (cycle : List (List ℕ)) (pages : List Page) (c : Certificate) (named : Option ℕ) (bytes : List ℕ) (verdict : FeedVerdict)

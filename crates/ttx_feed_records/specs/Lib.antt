@@ -1,2 +1,3 @@
 pub mod FeedRecords
 pub mod RowRecords
+pub mod ReportRecords

@@ -4,7 +4,7 @@
 --   how_members             a breach
 --   row_record              a verdict
 --   IsRowRecorded           the verdict on a feed, and its object
-use Rattle.std.specs.Prelude.{◌≡◌, ℕ, List, [], ◌∷◌, ◌++◌, codes, Option}
+use Rattle.std.specs.Prelude.{◌≡◌, ℕ, List, [], ◌∷◌, ◌++◌, codes, Option, Some}
 use Rattle.ttx_json.specs.Objects.{Member, word, count}
 use Rattle.ttx_page.specs.Pages.{Page}
 use Rattle.ttx_witness.specs.Coverage.{Certificate}
@@ -27,8 +27,8 @@ how_members pages slot (Row page row) = repeated_row pages slot page row
 abbrev pub row_record : List Page → RowVerdict → List ℕ
 row_record pages (Unlike unlike) = line (unlike_members unlike)
 row_record pages (Yes start slots lost rest) = line (yes_members start slots lost ++ rest_members rest)
-row_record pages (No start slot breach) = line (with_start (how_members pages slot breach) start)
-row_record pages (Shifted start slot by slots) = line (with_start (shifted_members slots slot by) start)
+row_record pages (No start slot breach) = line (with_start (how_members pages slot breach) (Some start))
+row_record pages (Shifted start slot by slots) = line (with_start (shifted_members slots slot by) (Some start))
 
 -- the verdict on a feed of these bytes, and its object
 pub record IsRowRecorded (cycle : List (List ℕ)) (pages : List Page) (c : Certificate) (named : Option ℕ) (bytes : List ℕ) (verdict : RowVerdict)

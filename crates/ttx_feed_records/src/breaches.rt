@@ -4,21 +4,20 @@ ghost use Rattle.std.specs.Prelude.{◌≡◌, ◌++◌, [], OnOk, map, string_b
 ghost use Rattle.ttx_page.specs.Views.{page_of};
 ghost use Rattle.ttx_feed_records.specs.FeedRecords as rule;
 
-use crate::members::{item_name, page_text};
+use crate::members::{item_name, page_text, push_with_start};
 use std::alloc::{AllocError, Global};
-use ttx_json::{count, push_object, word};
+use ttx_json::{count, word};
 use ttx_monitor::{Breach, TextByte};
 use ttx_page::Page;
 
-/// A slot of a feed that begins with slot `start` of the cycle.
+/// A slot of a feed, and the slot of the cycle with which the feed begins, if that is told.
 #[derive(Clone, Copy)]
 pub struct At {
     pub slot: u64,
-    pub start: u32,
+    pub start: Option<u32>,
 }
 
 // Adds a slot that breaks the rule in a way that has no number.
-#[tactic(auto, unfolding(crate::specs::FeedRecords::line))]
 fn push_how(alloc: Global, text: &mut String, at: At, how: &str) -> Result<(), AllocError>
     ensures { OnOk result (string_bytes text.new ≡ string_bytes text.old
         ++ rule.line (rule.with_start (rule.at_slot at.slot how.now []) at.start)) }
@@ -27,13 +26,11 @@ fn push_how(alloc: Global, text: &mut String, at: At, how: &str) -> Result<(), A
         word("answer", "no"),
         count("slot", at.slot),
         word("how", how),
-        count("start", u64::from(at.start)),
     ];
-    push_object(alloc, text, &members)
+    push_with_start(alloc, text, &members, at.start)
 }
 
 // Adds a slot with a byte of which two bits or more are wrong.
-#[tactic(auto, unfolding(crate::specs::FeedRecords::line))]
 fn push_byte(alloc: Global, text: &mut String, at: At, byte: u8) -> Result<(), AllocError>
     ensures { OnOk result (string_bytes text.new ≡ string_bytes text.old
         ++ rule.line (rule.with_start (rule.far_byte at.slot byte) at.start)) }
@@ -43,13 +40,11 @@ fn push_byte(alloc: Global, text: &mut String, at: At, byte: u8) -> Result<(), A
         count("slot", at.slot),
         word("how", "byte"),
         count("byte", u64::from(byte)),
-        count("start", u64::from(at.start)),
     ];
-    push_object(alloc, text, &members)
+    push_with_start(alloc, text, &members, at.start)
 }
 
 // Adds the latest of too many slots in which a byte was wrong.
-#[tactic(auto, unfolding(crate::specs::FeedRecords::line))]
 fn push_repeat(
     alloc: Global,
     text: &mut String,
@@ -69,13 +64,11 @@ fn push_repeat(
         word("page", page.as_str()),
         word("item", item.as_str()),
         count("byte", u64::from(byte.byte)),
-        count("start", u64::from(at.start)),
     ];
-    push_object(alloc, text, &members)
+    push_with_start(alloc, text, &members, at.start)
 }
 
 /// Adds the latest of too many slots with a row of a page that did not come whole.
-#[tactic(auto, unfolding(crate::specs::FeedRecords::line))]
 pub fn push_row(
     alloc: Global,
     text: &mut String,
@@ -94,9 +87,8 @@ pub fn push_row(
         word("how", "repeat"),
         word("page", page.as_str()),
         word("item", item.as_str()),
-        count("start", u64::from(at.start)),
     ];
-    push_object(alloc, text, &members)
+    push_with_start(alloc, text, &members, at.start)
 }
 
 /// Adds a slot that breaks the rule by bytes.

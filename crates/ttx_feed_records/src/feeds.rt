@@ -46,8 +46,8 @@ fn push_yes(alloc: Global, text: &mut String, whole: Whole) -> Result<(), AllocE
     push_with_rest(alloc, text, &members, whole.rest)
 }
 
-// Adds a verdict.
-fn push_verdict(
+/// Adds a verdict.
+pub fn push_verdict(
     alloc: Global,
     text: &mut String,
     pages: &[Page],
@@ -78,7 +78,16 @@ fn push_verdict(
             start,
             slot,
             breach,
-        } => push_breach(alloc, text, pages, At { slot, start }, breach),
+        } => push_breach(
+            alloc,
+            text,
+            pages,
+            At {
+                slot,
+                start: Some(start),
+            },
+            breach,
+        ),
         FeedVerdict::Shifted {
             start,
             slot,
@@ -92,7 +101,7 @@ fn push_verdict(
                 slot,
                 by,
             },
-            start,
+            Some(start),
         ),
     }
 }

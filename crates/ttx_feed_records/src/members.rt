@@ -72,6 +72,28 @@ pub fn push_with_rest(
     }
 }
 
+/// Adds an object with these members and the slot of the cycle with which the feed begins, if it is told.
+#[tactic(auto, unfolding(crate::specs::FeedRecords::line))]
+pub fn push_with_start(
+    alloc: Global,
+    text: &mut String,
+    first: &[Member],
+    start: Option<u32>,
+) -> Result<(), AllocError>
+    ensures { OnOk result (string_bytes text.new ≡ string_bytes text.old
+        ++ rule.line (rule.with_start (map member_of first.now) start)) }
+{
+    match start {
+        None => push_object(alloc, text, first),
+        Some(start) => {
+            let mut members = Vec::new(alloc);
+            members.extend_from_slice(first)?;
+            members.push(count("start", u64::from(start)))?;
+            push_object(alloc, text, members.as_slice())
+        }
+    }
+}
+
 /// The id of a page of the list.
 pub fn page_text(alloc: Global, pages: &[Page], index: u32) -> Result<String, AllocError>
     ensures { IfOk result (λ text. string_bytes text ≡ page_text (map page_of pages.now) index) }
@@ -114,13 +136,12 @@ pub struct Slip {
     pub by: usize,
 }
 
-/// Adds where a feed has slipped that begins with slot `start` of the cycle.
-#[tactic(auto, unfolding(crate::specs::FeedRecords::line))]
+/// Adds where a feed has slipped that begins with slot `start` of the cycle, if that is told.
 pub fn push_shifted(
     alloc: Global,
     text: &mut String,
     slip: Slip,
-    start: u32,
+    start: Option<u32>,
 ) -> Result<(), AllocError>
     ensures { OnOk result (string_bytes text.new ≡ string_bytes text.old
         ++ rule.line (rule.with_start (rule.shifted_members slip.slots slip.slot slip.by) start)) }
@@ -131,7 +152,6 @@ pub fn push_shifted(
         count("slot", slip.slot),
         word("how", "shifted"),
         shift,
-        count("start", u64::from(start)),
     ];
-    push_object(alloc, text, &members)
+    push_with_start(alloc, text, &members, start)
 }

@@ -92,7 +92,16 @@ fn push_verdict(
             start,
             slot,
             breach,
-        } => push_row_breach(alloc, text, pages, At { slot, start }, breach),
+        } => push_row_breach(
+            alloc,
+            text,
+            pages,
+            At {
+                slot,
+                start: Some(start),
+            },
+            breach,
+        ),
         RowVerdict::Shifted {
             start,
             slot,
@@ -106,7 +115,7 @@ fn push_verdict(
                 slot,
                 by,
             },
-            start,
+            Some(start),
         ),
     }
 }

@@ -14,7 +14,7 @@ use Rattle.ttx_monitor.specs.Events.{moved, since, IsWalk}
 use Rattle.ttx_monitor.specs.Feeds.{HearsAll}
 use Rattle.ttx_monitor.specs.Stepping.{IsNext}
 use Rattle.ttx_monitor.specs.Tallies.{nothing_yet, added, tally_of, is_bad, bad_of, is_last}
-use Rattle.ttx_monitor.specs.EventLines.{Telling, event_text, told_text}
+use Rattle.ttx_monitor.specs.Wordings.{Telling, event_text, told_text}
 use Rattle.ttx_monitor.specs.Followed.{WritesEvent, CountsFollowed, IsEnd, IsFollowed, IsStopped, IsUnwritten, IsCutOff, Follows}
 use Rattle.ttx_monitor.specs.declared.ahead.Ahead.{Ahead}
 use Rattle.ttx_monitor.specs.declared.event.Event.{Event}

@@ -6,7 +6,7 @@ use Rattle.ttx_packet.specs.Laws.{RowsAreNumbered}
 use Rattle.ttx_page.specs.Laws.{EachSlotTurns, StreamsMove}
 use Rattle.ttx_counter.specs.Streaks.{StreaksDecide}
 use Rattle.ttx_counter.specs.Cells.{is_text}
-use Rattle.ttx_monitor.specs.Watching.{Watched, sent_at, IsWithin}
+use Rattle.ttx_monitor.specs.Watching.{Watched, IsWithin}
 use Rattle.ttx_monitor.specs.Places.{is_at, IsTable}
 use Rattle.ttx_monitor.specs.Streaks.{place_at, sends_at, streak, base, AreStreaks, AreTextsRight, IsLargestIn, HasStreak, IsLongest}
 use Rattle.ttx_monitor.specs.Totals.{with_repeat, IsLongestStreak}

@@ -11,10 +11,9 @@ use Rattle.ttx_monitor.specs.Events.{IsWalk}
 use Rattle.ttx_monitor.specs.Feeds.{IsWhole, HearsAll}
 use Rattle.ttx_monitor.specs.FeedVerdicts.{start_of, IsVerdictOf}
 use Rattle.ttx_monitor.specs.Tallies.{nothing_yet}
-use Rattle.ttx_monitor.specs.EventLines.{Telling, told_text}
+use Rattle.ttx_monitor.specs.Wordings.{Telling, told_text, last_text}
 use Rattle.ttx_monitor.specs.Followed.{IsEnd, IsFollowed, IsCutOff, Follows}
 use Rattle.ttx_monitor.specs.FeedReports.{IsEnded, rest_of, IsReport, ReportsFrom}
-use Rattle.ttx_monitor.specs.Summaries.{last_text}
 use Rattle.ttx_monitor.specs.declared.event.Event.{Event}
 use Rattle.ttx_monitor.specs.declared.following.FollowFault.{FollowFault}
 use Rattle.ttx_monitor.specs.declared.following.FollowFault.TheVariants as follow

@@ -6,7 +6,7 @@
 --   IsSaid                  what the verdict at the end says
 --   IsReport                what is written and counted of the slots, and the verdict at the end
 --   EndsWith, ReportsFrom   what goes out, from the slot with which the feed begins on
---   IsUnbegun, WritesUnlike nothing goes out before that slot is known; for a feed without packets only the line that says so
+--   IsUnbegun, WritesUnlike nothing goes out before that slot is known; for a feed without packets only the words that say so
 --   ReportsFeed             the same where that slot is named or found
 --   IsEnded, rest_of        how the reading has ended, and how many bytes follow the last slot
 use Rattle.std.specs.Prelude.{◌≡◌, ◌⊎◌, ℕ, ◌*◌, ◌<◌, ◌≤◌, true, false, ⊤, List, [], ◌∷◌, ◌++◌, length, take, Option, Some, None, Result, Ok, Err}
@@ -15,14 +15,12 @@ use Rattle.ttx_page.specs.Pages.{Page}
 use Rattle.ttx_witness.specs.Coverage.{Certificate}
 use Rattle.ttx_recognition.specs.declared.form.Unlike.{Unlike}
 use Rattle.ttx_monitor.specs.Watching.{watched}
-use Rattle.ttx_monitor.specs.FeedLines.{feed_text}
 use Rattle.ttx_monitor.specs.Events.{IsWalk}
 use Rattle.ttx_monitor.specs.Feeds.{IsEnding}
 use Rattle.ttx_monitor.specs.FeedVerdicts.{IsFoundIn, BeginsAt, start_of, IsVerdictOf}
 use Rattle.ttx_monitor.specs.Tallies.{nothing_yet, tally_of, is_bad}
-use Rattle.ttx_monitor.specs.EventLines.{Telling, told_text}
+use Rattle.ttx_monitor.specs.Wordings.{Words, Telling, told_text, last_text}
 use Rattle.ttx_monitor.specs.Followed.{IsEnd, IsUnwritten, IsCutOff}
-use Rattle.ttx_monitor.specs.Summaries.{last_text}
 use Rattle.ttx_monitor.specs.declared.asked.Asked.{Asked}
 use Rattle.ttx_monitor.specs.declared.event.Event.{Event}
 use Rattle.ttx_monitor.specs.declared.following.FollowFault.{FollowFault}
@@ -39,9 +37,16 @@ abbrev pub span_of : Option ℕ → ℕ → Option ℕ
 span_of None lines = None
 span_of (Some fields) lines = Some (fields * lines)
 
-abbrev pub telling_for : List (List ℕ) → List Page → Certificate → Asked → ℕ → Telling
-telling_for cycle pages c asked start =
-    record { all = asked.all; pages = pages; count = length cycle; start = start; lines = c.lines; span = span_of asked.every c.lines }
+abbrev pub telling_for : Words → List (List ℕ) → List Page → Certificate → Asked → ℕ → Telling
+telling_for words cycle pages c asked start = record {
+  words = words;
+  all = asked.all;
+  pages = pages;
+  count = length cycle;
+  start = start;
+  lines = c.lines;
+  span = span_of asked.every c.lines;
+}
 
 abbrev pub IsFirstBad : List Event → Type 0
 IsFirstBad events =
@@ -86,19 +91,19 @@ IsUnbegun old new (Err (follow.Feed fault)) = Keeps old new
 IsUnbegun old new _ = ⊥
 
 -- a feed without packets is not judged
-abbrev pub WritesUnlike : Unlike → Option (List ℕ) → Option (List ℕ) → Result (Option FeedVerdict) FollowFault → Type 0
-WritesUnlike u old new (Ok v) = (v ≡ Some (verdict.Unlike u)) × Appends old new (feed_text [] (verdict.Unlike u))
-WritesUnlike u old new (Err (follow.Write written)) =
-    (written < length (feed_text [] (verdict.Unlike u))) × Appends old new (take written (feed_text [] (verdict.Unlike u)))
-WritesUnlike u old new (Err (follow.Feed fault)) = Keeps old new
+abbrev pub WritesUnlike : Words → Unlike → Option (List ℕ) → Option (List ℕ) → Result (Option FeedVerdict) FollowFault → Type 0
+WritesUnlike words u old new (Ok v) = (v ≡ Some (verdict.Unlike u)) × Appends old new (words.verdict [] (verdict.Unlike u))
+WritesUnlike words u old new (Err (follow.Write written)) =
+    (written < length (words.verdict [] (verdict.Unlike u))) × Appends old new (take written (words.verdict [] (verdict.Unlike u)))
+WritesUnlike words u old new (Err (follow.Feed fault)) = Keeps old new
 
-abbrev pub ReportsFeed : List (List ℕ) → List Page → Certificate → Asked → List ℕ → Option (List ℕ) → Option (List ℕ) →
+abbrev pub ReportsFeed : Words → List (List ℕ) → List Page → Certificate → Asked → List ℕ → Option (List ℕ) → Option (List ℕ) →
     Result (Option FeedVerdict) FollowFault → Type 0
-ReportsFeed cycle pages c asked bytes old new result =
+ReportsFeed words cycle pages c asked bytes old new result =
     IsUnbegun old new result
-    ⊎ (((u : Unlike) × IsFoundIn cycle bytes (Some u) × WritesUnlike u old new result)
+    ⊎ (((u : Unlike) × IsFoundIn cycle bytes (Some u) × WritesUnlike words u old new result)
     ⊎ ((start : ℕ) × IsFoundIn cycle bytes None × BeginsAt cycle bytes asked.start start
-    × ReportsFrom cycle pages c bytes (telling_for cycle pages c asked start) old new result))
+    × ReportsFrom cycle pages c bytes (telling_for words cycle pages c asked start) old new result))
 
 -- how the reading has ended, if no breach was passed over
 abbrev pub IsEnded : Followed → ℕ → Option Heard → Type 0

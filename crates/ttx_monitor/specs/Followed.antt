@@ -1,6 +1,6 @@
 -- A feed that is followed, and what is written of it while it comes (profile).
 --
---   telling_of              what its lines depend on
+--   telling_of              what is written of it, in these words
 --   WritesEvent             what goes out for one slot
 --   CountsFollowed, CountsWrites    a fault of the feed or of the writer is returned if one failed, and only then
 --   IsEnd                   what is left at the end of the feed
@@ -16,9 +16,9 @@ use Rattle.ttx_monitor.specs.Standing.{Stands}
 use Rattle.ttx_monitor.specs.Events.{IsWalk}
 use Rattle.ttx_monitor.specs.Feeds.{IsEnding, HearsAll}
 use Rattle.ttx_monitor.specs.Tallies.{nothing_yet, tally_of, is_bad}
-use Rattle.ttx_monitor.specs.EventLines.{Telling, event_text, told_text}
+use Rattle.ttx_monitor.specs.Wordings.{Words, Telling, event_text, told_text}
 use Rattle.ttx_monitor.specs.declared.event.Event.{Event}
-use Rattle.ttx_monitor.specs.declared.event_lines.How.{How}
+use Rattle.ttx_monitor.specs.declared.event_texts.How.{How}
 use Rattle.ttx_monitor.specs.declared.following.Following.{Following}
 use Rattle.ttx_monitor.specs.declared.following.FollowFault.{FollowFault}
 use Rattle.ttx_monitor.specs.declared.following.FollowFault.TheVariants as follow
@@ -27,9 +27,16 @@ use Rattle.ttx_monitor.specs.declared.following.Followed.TheVariants.{End, Stopp
 use Rattle.ttx_monitor.specs.declared.hearing.Heard.{Heard}
 use Rattle.ttx_files.specs.declared.faults.FeedFault.TheVariants.{Read, NoMemory}
 
-abbrev pub telling_of : How → Telling
-telling_of h =
-    record { all = h.all; pages = map page_of h.pages.now; count = h.count; start = h.start; lines = h.lines; span = h.span }
+abbrev pub telling_of : Words → How → Telling
+telling_of words h = record {
+  words = words;
+  all = h.all;
+  pages = map page_of h.pages.now;
+  count = h.count;
+  start = h.start;
+  lines = h.lines;
+  span = h.span;
+}
 
 abbrev pub WritesEvent : {T : Type 0} → List ℕ → Option (List ℕ) → Option (List ℕ) → Result T FollowFault → Type 0
 WritesEvent text old new (Ok _) = Appends old new text

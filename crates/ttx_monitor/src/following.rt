@@ -1,4 +1,4 @@
-//! Follows a feed, and writes its lines while it comes.
+//! Follows a feed, and reports it while it comes.
 
 ghost use Rattle.std.specs.Prelude.{◌≡◌, [], ℕ, List};
 ghost use Rattle.ttx_cycle.specs.Counters.{inner_of, faults_of};
@@ -6,15 +6,16 @@ ghost use Rattle.ttx_monitor.specs.Watching.{Watched};
 ghost use Rattle.ttx_monitor.specs.Standing.{Stands};
 ghost use Rattle.ttx_monitor.specs.Waiting.{IsLeft};
 ghost use Rattle.ttx_monitor.specs.Tallies.{nothing_yet};
-ghost use Rattle.ttx_monitor.specs.EventLines.{event_text};
+ghost use Rattle.ttx_monitor.specs.Wordings.{event_text};
 ghost use Rattle.ttx_monitor.specs.Followed.{telling_of, WritesEvent, CountsFollowed, CountsWrites, Follows};
 
 use crate::ahead::Ahead;
 use crate::event::Event;
-use crate::event_lines::{How, event_text};
+use crate::event_texts::{How, event_text};
 use crate::monitor::Monitor;
 use crate::stepping::{Step, hear_next};
 use crate::tally::{Tally, added, is_last};
+use crate::wording::Wording;
 use std::alloc::Global;
 use std::io::{Read, Write};
 use ttx_cycle::{Counted, WriteFault, write_bytes};
@@ -45,19 +46,19 @@ pub enum Followed {
     Stopped { slot: u64, event: Event },
 }
 
-// Writes the lines of a slot.
-fn tell<W: Write>(
+// Writes what is written for a slot.
+fn tell<V: Wording, W: Write>(
     alloc: Global,
     how: &How<'_>,
     tally: Tally,
     event: &Event,
     writer: &mut Counted<W>,
 ) -> Result<(), FollowFault>
-    ensures bytes { WritesEvent (event_text (telling_of how.now) tally event.now) (W.contents (inner_of writer.old))
+    ensures bytes { WritesEvent (event_text (telling_of V.words how.now) tally event.now) (W.contents (inner_of writer.old))
         (W.contents (inner_of writer.new)) result }
     ensures faults { CountsWrites result (faults_of writer.old) (faults_of writer.new) }
 {
-    let Ok(text) = event_text(alloc, how, tally, event) else {
+    let Ok(text) = event_text::<V>(alloc, how, tally, event) else {
         return Err(FollowFault::Feed(FeedFault::NoMemory));
     };
     if text.is_empty() {
@@ -69,9 +70,9 @@ fn tell<W: Write>(
     }
 }
 
-/// Follows a feed to its end, or to the first slot that breaks the rule if only that is reported, and writes the lines of each slot before the next
-/// one is read.
-pub fn follow<R: Read, W: Write>(
+/// Follows a feed to its end, or to the first slot that breaks the rule if only that is reported, and writes what is written for each slot, in the
+/// words of `V`, before the next one is read.
+pub fn follow<V: Wording, R: Read, W: Write>(
     alloc: Global,
     following: &mut Following<'_>,
     how: &How<'_>,
@@ -79,7 +80,7 @@ pub fn follow<R: Read, W: Write>(
     writer: &mut Counted<W>,
 ) -> Result<Followed, FollowFault>
     ensures told { (w : Watched) (bytes : List ℕ) → Stands following.old.monitor w [] → IsLeft following.old.ahead (R.remaining (inner_of feed.old)) bytes →
-        following.old.tally ≡ nothing_yet → Follows w bytes (telling_of how.now) following.new (W.contents (inner_of writer.old))
+        following.old.tally ≡ nothing_yet → Follows w bytes (telling_of V.words how.now) following.new (W.contents (inner_of writer.old))
         (W.contents (inner_of writer.new)) result }
     ensures feed { CountsFollowed result (faults_of feed.old) (faults_of feed.new) }
     ensures writer { CountsWrites result (faults_of writer.old) (faults_of writer.new) }
@@ -97,7 +98,7 @@ pub fn follow<R: Read, W: Write>(
             Step::Heard { event } => event,
             Step::End { rest } => return Ok(Followed::End { rest }),
         };
-        match tell(alloc, how, following.tally, &event, writer) {
+        match tell::<V, W>(alloc, how, following.tally, &event, writer) {
             Ok(()) => {}
             Err(fault) => return Err(fault),
         }

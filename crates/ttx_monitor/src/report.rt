@@ -11,18 +11,20 @@ ghost use Rattle.ttx_source.specs.Services.{pages_of};
 ghost use Rattle.ttx_witness.specs.Certificates.{certificate_of};
 ghost use Rattle.ttx_witness.specs.Coverage as coverage;
 ghost use Rattle.ttx_monitor.specs.Watching.{watched};
-ghost use Rattle.ttx_monitor.specs.EventLines.{Telling};
+ghost use Rattle.ttx_monitor.specs.Wordings.{Words, Telling};
+ghost use Rattle.ttx_monitor.specs.EventLines.{in_lines};
 ghost use Rattle.ttx_monitor.specs.Followed.{telling_of, Follows, CountsFollowed, CountsWrites};
 ghost use Rattle.ttx_monitor.specs.FeedReports.{telling_for, IsEnded, rest_of, IsReport, WritesUnlike, ReportsFrom, ReportsFeed};
 
 use crate::asked::Asked;
 use crate::beginning::begin;
-use crate::event_lines::How;
-use crate::feed_lines::feed_text;
+use crate::event_texts::How;
 use crate::following::{FollowFault, Followed, Following, follow};
 use crate::hearing::{Heard, ending, verdict_of};
-use crate::summary::last_text;
+use crate::lines::Lines;
+use crate::summary::{Closing, last_text, unlike_text};
 use crate::verdict::FeedVerdict;
+use crate::wording::Wording;
 use std::alloc::Global;
 use std::io::{Read, Write};
 use ttx_cycle::{Counted, WriteFault, write_bytes};
@@ -31,8 +33,8 @@ use ttx_recognition::Unlike;
 
 // How a feed is reported that begins with slot `start` of the cycle.
 fn how_of<'a>(inputs: &'a Inputs, asked: Asked, start: u32) -> How<'a>
-    ensures { telling_of result ≡ telling_for (slots_of inputs.entry.now.cycle) (pages_of inputs.entry.now.service)
-        (certificate_of inputs.entry.now.certificate) asked start }
+    ensures { (words : Words) → telling_of words result ≡ telling_for words (slots_of inputs.entry.now.cycle)
+        (pages_of inputs.entry.now.service) (certificate_of inputs.entry.now.certificate) asked start }
 {
     ttx_witness::certificate_laws::certificates_keep_their_rules();
     let lines = inputs.certificate.lines();
@@ -90,27 +92,26 @@ fn verdict_at(following: &Following<'_>, start: u32, followed: Followed) -> Opti
 }
 
 // Writes what a feed is if it is no feed of packets.
-fn write_unlike<W: Write>(
+fn write_unlike<V: Wording, W: Write>(
     alloc: Global,
     unlike: Unlike,
     writer: &mut Counted<W>,
 ) -> Result<Option<FeedVerdict>, FollowFault>
-    ensures bytes { WritesUnlike unlike (W.contents (inner_of writer.old)) (W.contents (inner_of writer.new)) result }
+    ensures bytes { WritesUnlike V.words unlike (W.contents (inner_of writer.old)) (W.contents (inner_of writer.new)) result }
     ensures faults { CountsWrites result (faults_of writer.old) (faults_of writer.new) }
     ensures own { IfErr result (λ fault. fault ≡ FollowFault.Feed FeedFault.Read → ⊥) }
 {
-    let verdict = FeedVerdict::Unlike(unlike);
-    let Ok(text) = feed_text(alloc, &[], verdict) else {
+    let Ok(text) = unlike_text::<V>(alloc, unlike) else {
         return Err(FollowFault::Feed(FeedFault::NoMemory));
     };
     match write_bytes(writer, text.as_bytes()) {
-        Ok(()) => Ok(Some(verdict)),
+        Ok(()) => Ok(Some(FeedVerdict::Unlike(unlike))),
         Err(WriteFault { written }) => Err(FollowFault::Write { written }),
     }
 }
 
-// Writes the last lines of a feed that was followed.
-fn conclude<W: Write>(
+// Writes the end of a feed that was followed.
+fn conclude<V: Wording, W: Write>(
     alloc: Global,
     following: &Following<'_>,
     how: &How<'_>,
@@ -119,14 +120,18 @@ fn conclude<W: Write>(
 ) -> Result<Option<FeedVerdict>, FollowFault>
     ensures bytes { (cycle : List (List ℕ)) (pages : List Page) (c : coverage.Certificate) (bytes : List ℕ) (old : Option (List ℕ)) →
         IsCycle cycle → ArePages pages → coverage.IsCertificate c →
-        Follows (watched cycle pages c.repeat how.now.start) bytes (telling_of how.now) following.now old (W.contents (inner_of writer.old))
-        (Ok followed) → ReportsFrom cycle pages c bytes (telling_of how.now) old (W.contents (inner_of writer.new)) result }
+        Follows (watched cycle pages c.repeat how.now.start) bytes (telling_of V.words how.now) following.now old (W.contents (inner_of writer.old))
+        (Ok followed) → ReportsFrom cycle pages c bytes (telling_of V.words how.now) old (W.contents (inner_of writer.new)) result }
     ensures faults { CountsWrites result (faults_of writer.old) (faults_of writer.new) }
     ensures own { IfErr result (λ fault. fault ≡ FollowFault.Feed FeedFault.Read → ⊥) }
 {
     let verdict = verdict_at(following, how.start, followed);
-    let rest = rest_of(followed);
-    let Ok(text) = last_text(alloc, how, following.tally, rest, verdict) else {
+    let closing = Closing {
+        tally: following.tally,
+        rest: rest_of(followed),
+        verdict,
+    };
+    let Ok(text) = last_text::<V>(alloc, how, closing) else {
         return Err(FollowFault::Feed(FeedFault::NoMemory));
     };
     match write_bytes(writer, text.as_bytes()) {
@@ -137,14 +142,14 @@ fn conclude<W: Write>(
     }
 }
 
-/// Reads a feed slot by slot and reports it while it comes: each breach, if that is asked for, and the state every so many fields; and at
-/// the end the verdict, or, where breaches were passed over, how many there were. Unless each breach is asked for, the report ends at the
-/// first one. Each line is written before the next slot is read.
+/// Reads a feed slot by slot and reports it while it comes, in the words of `V`: each breach, if that is asked for, and the state every so many
+/// fields; and at the end the verdict, or, where breaches were passed over, how many there were. Unless each breach is asked for, the report
+/// ends at the first one. Each line is written before the next slot is read.
 ///
 /// The verdict is that of `monitor_feed`; `None` where breaches were passed over. No slot behind the first period is kept, so memory does not
 /// grow with the feed. `Err` if a read or a write fails or memory runs out: at a failed write exactly the first `written` bytes of the
 /// latest lines went out.
-pub fn report_feed<R: Read, W: Write>(
+pub fn report_feed_in<V: Wording, R: Read, W: Write>(
     alloc: Global,
     inputs: &Inputs,
     asked: Asked,
@@ -152,7 +157,7 @@ pub fn report_feed<R: Read, W: Write>(
     writer: &mut Counted<W>,
 ) -> Result<Option<FeedVerdict>, FollowFault>
     ensures bytes { IfSome (R.remaining (inner_of feed.old)) (λ bytes.
-        ReportsFeed (slots_of inputs.now.cycle) (pages_of inputs.now.service) (certificate_of inputs.now.certificate) asked bytes
+        ReportsFeed V.words (slots_of inputs.now.cycle) (pages_of inputs.now.service) (certificate_of inputs.now.certificate) asked bytes
         (W.contents (inner_of writer.old)) (W.contents (inner_of writer.new)) result) }
     ensures feed { CountsFollowed result (faults_of feed.old) (faults_of feed.new) }
     ensures writer { CountsWrites result (faults_of writer.old) (faults_of writer.new) }
@@ -164,13 +169,30 @@ pub fn report_feed<R: Read, W: Write>(
         Err(fault) => return Err(FollowFault::Feed(fault)),
     };
     if let Some(unlike) = begun.found {
-        return write_unlike(alloc, unlike, writer);
+        return write_unlike::<V, W>(alloc, unlike, writer);
     }
     let _pages = inputs.service.pages();
     let how = how_of(inputs, asked, begun.start);
-    let followed = match follow(alloc, &mut begun.following, &how, feed, writer) {
+    let followed = match follow::<V, R, W>(alloc, &mut begun.following, &how, feed, writer) {
         Ok(followed) => followed,
         Err(fault) => return Err(fault),
     };
-    conclude(alloc, &begun.following, &how, followed, writer)
+    conclude::<V, W>(alloc, &begun.following, &how, followed, writer)
+}
+
+/// Reports a feed while it comes, as `report_feed_in`, in lines: those of `Lines`.
+pub fn report_feed<R: Read, W: Write>(
+    alloc: Global,
+    inputs: &Inputs,
+    asked: Asked,
+    feed: &mut Counted<R>,
+    writer: &mut Counted<W>,
+) -> Result<Option<FeedVerdict>, FollowFault>
+    ensures bytes { IfSome (R.remaining (inner_of feed.old)) (λ bytes.
+        ReportsFeed in_lines (slots_of inputs.now.cycle) (pages_of inputs.now.service) (certificate_of inputs.now.certificate) asked bytes
+        (W.contents (inner_of writer.old)) (W.contents (inner_of writer.new)) result) }
+    ensures feed { CountsFollowed result (faults_of feed.old) (faults_of feed.new) }
+    ensures writer { CountsWrites result (faults_of writer.old) (faults_of writer.new) }
+{
+    report_feed_in::<Lines, R, W>(alloc, inputs, asked, feed, writer)
 }

@@ -1,132 +1,93 @@
-//! The last lines of a feed that is followed.
+//! What is written at the end of a feed that is followed.
 
-ghost use Rattle.std.specs.Prelude.{◌≡◌, ◌++◌, IfOk, OnOk, string_bytes};
-ghost use Rattle.ttx_monitor.specs.EventLines.{no_text, breaches_text, broken_text, a_minute, all_text, minute_text, total_text};
+ghost use Rattle.std.specs.Prelude.{◌≡◌, ◌++◌, [], IfOk, OnOk, string_bytes};
+ghost use Rattle.ttx_monitor.specs.Wordings.{sum_text, said_text, last_text};
 ghost use Rattle.ttx_monitor.specs.Followed.{telling_of};
-ghost use Rattle.ttx_monitor.specs.Summaries.{sum_text, said_text, last_text};
 
-use crate::event_lines::How;
-use crate::feed_lines::{push_rest, push_verdict};
+use crate::event_texts::How;
+use crate::sums::sums_of;
 use crate::tally::Tally;
 use crate::verdict::FeedVerdict;
+use crate::wording::Wording;
 use std::alloc::{AllocError, Global};
+use ttx_recognition::Unlike;
 use ttx_witness::NoMemory;
 
-// How often something happens in the 3,000 fields of a minute.
-fn a_minute(count: u64, slots: u64, lines: u8) -> u64
-    ensures { result ≡ a_minute count slots lines }
-{
-    if slots == 0 {
-        return 0;
-    }
-    let minute = u128::from(count) * (3000 * u128::from(lines)) / u128::from(slots);
-    minute.min(u128::from(u64::MAX)) as u64
+/// The end of a feed that was followed: what has been counted, how many bytes follow the last slot, and the verdict, unless breaches were passed over.
+#[derive(Clone, Copy)]
+pub struct Closing {
+    pub tally: Tally,
+    pub rest: usize,
+    pub verdict: Option<FeedVerdict>,
 }
 
-// Appends the beginning of the line of a feed that breaks the rule.
-fn push_no(text: &mut String, start: u32, slots: u64) -> Result<(), AllocError>
-    ensures { OnOk result (string_bytes text.new ≡ string_bytes text.old ++ no_text start slots) }
-{
-    write!(text, "no start {start} slots {slots}")
-}
-
-// Appends the rest of it.
-fn push_breaches(text: &mut String, tally: Tally) -> Result<(), AllocError>
-    ensures { OnOk result (string_bytes text.new ≡ string_bytes text.old ++ breaches_text tally) }
-{
-    let (wrong, streak, breaches) = (tally.wrong, tally.streak, tally.breaches);
-    write!(text, " wrong {wrong} streak {streak} breaches {breaches}\n")
-}
-
-// Appends the whole line.
-fn push_broken(text: &mut String, start: u32, tally: Tally) -> Result<(), AllocError>
-    ensures { OnOk result (string_bytes text.new ≡ string_bytes text.old ++ broken_text start tally) }
-{
-    push_no(text, start, tally.slots)?;
-    push_breaches(text, tally)
-}
-
-// Appends what was lost and wrong in all.
-fn push_all(text: &mut String, lost: u64, bits: u64) -> Result<(), AllocError>
-    ensures { OnOk result (string_bytes text.new ≡ string_bytes text.old ++ all_text lost bits) }
-{
-    write!(text, "total lost {lost} bits {bits}")
-}
-
-// Appends the same for a minute, and the end of the line.
-fn push_minute(text: &mut String, lost: u64, bits: u64) -> Result<(), AllocError>
-    ensures { OnOk result (string_bytes text.new ≡ string_bytes text.old ++ minute_text lost bits) }
-{
-    write!(text, " minute lost {lost} bits {bits}\n")
-}
-
-// Appends the line of both.
-fn push_total(text: &mut String, lines: u8, tally: Tally) -> Result<(), AllocError>
-    ensures { OnOk result (string_bytes text.new ≡ string_bytes text.old ++ total_text lines tally) }
-{
-    push_all(text, tally.lost, tally.bits)?;
-    let lost = a_minute(tally.lost, tally.slots, lines);
-    let bits = a_minute(tally.bits, tally.slots, lines);
-    push_minute(text, lost, bits)
-}
-
-// Appends it where each breach is reported.
-fn push_sum(text: &mut String, how: &How<'_>, tally: Tally) -> Result<(), AllocError>
-    ensures { OnOk result (string_bytes text.new ≡ string_bytes text.old ++ sum_text (telling_of how.now) tally) }
+// Appends what was lost and wrong, where each breach is reported.
+fn push_sum<V: Wording>(
+    alloc: Global,
+    text: &mut String,
+    how: &How<'_>,
+    tally: Tally,
+) -> Result<(), AllocError>
+    ensures { OnOk result (string_bytes text.new ≡ string_bytes text.old ++ sum_text (telling_of V.words how.now) tally) }
 {
     if how.all {
-        return push_total(text, how.lines, tally);
+        return V::push_sums(alloc, text, sums_of(tally, how.lines));
     }
     Ok(())
 }
 
 // Appends the verdict, or, where breaches were passed over, how many there were.
-fn push_said(
+fn push_said<V: Wording>(
+    alloc: Global,
     text: &mut String,
     how: &How<'_>,
-    tally: Tally,
-    rest: usize,
-    verdict: Option<FeedVerdict>,
+    closing: Closing,
 ) -> Result<(), AllocError>
-    ensures { OnOk result (string_bytes text.new ≡ string_bytes text.old ++ said_text (telling_of how.now) tally rest verdict) }
+    ensures { OnOk result (string_bytes text.new ≡ string_bytes text.old
+        ++ said_text (telling_of V.words how.now) closing.tally closing.rest closing.verdict) }
 {
-    match verdict {
-        Some(verdict) => push_verdict(text, how.pages, verdict),
-        None => {
-            push_broken(text, how.start, tally)?;
-            push_rest(text, rest)
-        }
+    match closing.verdict {
+        Some(verdict) => V::push_verdict(alloc, text, how.pages, verdict),
+        None => V::push_broken(alloc, text, how.start, closing.tally, closing.rest),
     }
 }
 
-// Appends the last lines.
-fn push_last(
+// Appends both.
+fn push_last<V: Wording>(
+    alloc: Global,
     text: &mut String,
     how: &How<'_>,
-    tally: Tally,
-    rest: usize,
-    verdict: Option<FeedVerdict>,
+    closing: Closing,
 ) -> Result<(), AllocError>
-    ensures { OnOk result (string_bytes text.new ≡ string_bytes text.old ++ last_text (telling_of how.now) tally rest verdict) }
+    ensures { OnOk result (string_bytes text.new ≡ string_bytes text.old
+        ++ last_text (telling_of V.words how.now) closing.tally closing.rest closing.verdict) }
 {
-    push_said(text, how, tally, rest, verdict)?;
-    push_sum(text, how, tally)
+    push_said::<V>(alloc, text, how, closing)?;
+    push_sum::<V>(alloc, text, how, closing.tally)
 }
 
-/// The last lines of a feed of which so much has been counted and after whose last slot `rest` bytes follow: the verdict, or, where breaches
-/// were passed over, `no start S slots N wrong B streak K breaches X`; and, where each breach is reported, the packets lost and the wrong
-/// bits, in all and a minute. `Err` if memory runs out.
-pub fn last_text(
+/// What is written at the end of a feed: the verdict, or, where breaches were passed over, how many there were; and, where each breach is
+/// reported, the packets lost and the wrong bits, in all and a minute. `Err` if memory runs out.
+pub fn last_text<V: Wording>(
     alloc: Global,
     how: &How<'_>,
-    tally: Tally,
-    rest: usize,
-    verdict: Option<FeedVerdict>,
+    closing: Closing,
 ) -> Result<String, NoMemory>
-    ensures { IfOk result (λ text. string_bytes text ≡ last_text (telling_of how.now) tally rest verdict) }
+    ensures { IfOk result (λ text. string_bytes text ≡ last_text (telling_of V.words how.now) closing.tally closing.rest closing.verdict) }
 {
     let mut text = String::new(alloc);
-    match push_last(&mut text, how, tally, rest, verdict) {
+    match push_last::<V>(alloc, &mut text, how, closing) {
+        Ok(()) => Ok(text),
+        Err(_) => Err(NoMemory),
+    }
+}
+
+/// What is written of a feed that is no feed of packets. `Err` if memory runs out.
+pub fn unlike_text<V: Wording>(alloc: Global, unlike: Unlike) -> Result<String, NoMemory>
+    ensures { IfOk result (λ text. string_bytes text ≡ V.words.verdict [] (FeedVerdict.Unlike unlike)) }
+{
+    let mut text = String::new(alloc);
+    match V::push_verdict(alloc, &mut text, &[], FeedVerdict::Unlike(unlike)) {
         Ok(()) => Ok(text),
         Err(_) => Err(NoMemory),
     }

@@ -2,4 +2,8 @@ mod SaidWords
 mod ShareBounds
 mod SharedHouses
 mod WholeAirings
+mod RefusedChanges
+mod TurnedStreams
+mod WholeSuccessors
+mod Decisions
 mod ComposedTexts

@@ -15,9 +15,11 @@ use Rattle.ttx_newsroom.specs.TextNewsrooms.{Reading, Made, Printed, Spoilt, Sho
 use Rattle.ttx_newsroom.specs.declared.text_newsroom.TextNewsroom.{TextNewsroom}
 use Rattle.ttx_playout.specs.Schedules.{Edition, Showing, edition_at, one_more, taken, change}
 use Rattle.ttx_press.specs.declared.house.House.{House}
-use Rattle.ttx_press.specs.Presses.{Leaves, Presses}
+use Rattle.ttx_press.specs.Successors.{Leaves}
+use Rattle.ttx_press.specs.Presses.{Presses}
 use Rattle.ttx_press.specs.Presses.{prints, text_gives}
 use Rattle.ttx_press.specs.Whole.{SendsThrough, AiringsAreWhole}
+use Rattle.ttx_press.proofs.WholeSuccessors.{leaves_next}
 
 -- ---- changes that leave nothing open
 
@@ -72,7 +74,8 @@ module _ {S : Type 0} (reads : S → Reading → S → Type 0) (gap : ℕ) (on_a
   careful_made house late text mark (Printed edition) presses next e =
       let same : Next (record { edition = edition; mark = mark }) ≡ Next next = e in
       let own : record { edition = edition; mark = mark } ≡ next = cc in
-      let leaves : EndsWhole (change on_air edition) = subst (λ r. Leaves r on_air edition Yes) late presses.1 in
+      let leaves : EndsWhole (change on_air edition) = subst (λ r. Leaves r on_air edition Yes) late
+      (leaves_next house on_air presses.planned edition presses.leaves presses.succeeds) in
       subst (λ (c : Candidate). EndsWhole (change on_air c.edition)) own leaves
 
   careful_try : (text : List ℕ) (old new : House) (news : News) → old.receivers ≡ Late gap → Tries prints old on_air text news new →

@@ -3,6 +3,7 @@ pub mod AuthorRefusals
 pub mod Editions
 pub mod Refusals
 pub mod Turns
+pub mod Successors
 pub mod Presses
 pub mod Shares
 pub mod Openings

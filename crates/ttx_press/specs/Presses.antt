@@ -1,30 +1,23 @@
 -- What a house makes of texts.
 --
---   Leaves                  what an edition leaves open at a change; Yes if nothing
 --   IsAmid                  why the edition of a text may not follow: its begin would stand amid a page
+--   IsPressed               the edition of a text, which follows the one on the air as it is planned or begun elsewhere
 --   Presses                 an edition, or why there is none; memory may run out
 --   prints, text_gives      the edition that a house makes of a text; the answers of a newsroom over a text
 --   IsFirst                 the edition of a first text, with the mark of the text
 use Rattle.std.specs.Prelude.{◌≡◌, ◌⊎◌, ℕ, List, [], ◌∷◌, ◌++◌}
 use Rattle.sha2.specs.Sha256.{sha256}
 use Rattle.ttx_air.specs.Newsrooms.{Candidate, News}
-use Rattle.ttx_air.specs.declared.airtime.Receivers.{Receivers}
-use Rattle.ttx_air.specs.declared.airtime.Receivers.TheVariants.{AtOnce, Late}
-use Rattle.ttx_change.specs.LateSplices.{TellsOpen}
 use Rattle.ttx_change.specs.LateSpliceLines.{late_splice_line}
 use Rattle.ttx_change.specs.WholeChanges.{IsNotOpen}
 use Rattle.ttx_change.specs.declared.verdict.LateSplice.{LateSplice}
 use Rattle.ttx_change.specs.declared.verdict.LateSplice.TheVariants.{Yes}
 use Rattle.ttx_newsroom.specs.TextNewsrooms.{Reading, Made, Printed, Spoilt, Short, mark_of, Looks}
 use Rattle.ttx_newsroom.specs.declared.text_newsroom.TextNewsroom.{TextNewsroom}
-use Rattle.ttx_playout.specs.Schedules.{Edition, change}
+use Rattle.ttx_playout.specs.Schedules.{Edition}
 use Rattle.ttx_press.specs.Editions.{IsPrinted, IsSpoilt}
+use Rattle.ttx_press.specs.Successors.{Leaves, Succeeds}
 use Rattle.ttx_press.specs.declared.house.House.{House}
-
--- receivers that show rows as they come have nothing open
-abbrev pub Leaves : Receivers → Edition → Edition → LateSplice → Type 0
-Leaves AtOnce old new what = what ≡ Yes
-Leaves (Late gap) old new what = TellsOpen (change old new) what
 
 -- the edition on the air would leave something of a page open; the words are those of `splice --late`
 pub record IsAmid (h : House) (on_air : Edition) (text words : List ℕ) : Type 0 where
@@ -35,8 +28,14 @@ pub record IsAmid (h : House) (on_air : Edition) (text words : List ℕ) : Type 
   pub is_open : IsNotOpen what → ⊥
   pub line : late_splice_line what ≡ words ++ 10 ∷ []
 
+pub record IsPressed (h : House) (on_air : Edition) (text : List ℕ) (next : Edition) : Type 0 where
+  pub planned : Edition
+  pub printed : IsPrinted h text planned
+  pub leaves : Leaves h.receivers on_air planned Yes
+  pub succeeds : Succeeds h on_air planned next
+
 abbrev pub Presses : House → Edition → List ℕ → Made → Type 0
-Presses h on_air text (Printed next) = IsPrinted h text next × Leaves h.receivers on_air next Yes
+Presses h on_air text (Printed next) = IsPressed h on_air text next
 Presses h on_air text (Spoilt words) = IsSpoilt h text words ⊎ IsAmid h on_air text words
 Presses h on_air text Short = Unit {0}
 

@@ -5,9 +5,12 @@
 --   is_one, is_place        whether a page is this one; whether a slot begins this page, or another one
 --   places                  the slots that begin a page, the first of which has this number
 --   turns                   where a new cycle may begin: where it goes on as the old one begins again, and then elsewhere
-use Rattle.std.specs.Prelude.{ℕ, ◌+◌, Bool, true, false, not, ◌&&◌, if◌then◌else◌, List, [], ◌∷◌, ◌++◌, drop, take, Option, Some, None}
+--   TurnsSendTheSame        a turned cycle, once it repeats, is the cycle some slots later
+use Rattle.std.specs.Prelude.{◌≡◌, ℕ, ◌+◌, ◌<◌, ◌≤◌, ℤ, pos, ◌+ℤ◌, Bool, true, false, not, ◌&&◌, if◌then◌else◌, List, [], ◌∷◌, ◌++◌, length, drop, take}
+use Rattle.std.specs.Prelude.{Option, Some, None}
 use Rattle.ttx_header.specs.Headers.{id_of, is_header}
 use Rattle.ttx_header.specs.Ids.{Id, same_id, is_time_filling}
+use Rattle.ttx_page.specs.Streams.{repeated}
 
 abbrev pub turned : ℕ → List (List ℕ) → List (List ℕ)
 turned at cycle = drop at cycle ++ take at cycle
@@ -39,3 +42,7 @@ places first same at (slot ∷ slots) = (if is_place first same (page_begun slot
 -- slot 0 is no turn
 abbrev pub turns : List (List ℕ) → List (List ℕ) → List ℕ
 turns old new = places (first_begun old) true 1 (drop 1 new) ++ places (first_begun old) false 1 (drop 1 new)
+
+abbrev pub TurnsSendTheSame : Type 0
+TurnsSendTheSame = (cycle : List (List ℕ)) (at : ℕ) (i : ℤ) → 0 < length cycle → at ≤ length cycle →
+    repeated (turned at cycle) i ≡ repeated cycle (i +ℤ pos at)

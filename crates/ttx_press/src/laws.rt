@@ -1,5 +1,6 @@
-//! The law of airings from texts. A call costs nothing and gives the caller's proof the law.
+//! The laws of airings from texts. A call costs nothing and gives the caller's proof the law.
 
+ghost use Rattle.ttx_press.specs.Turns.{TurnsSendTheSame};
 ghost use Rattle.ttx_press.specs.Whole.{AiringsAreWhole};
 
 use ttx_newsroom::TextSource;
@@ -11,4 +12,11 @@ pub fn airings_are_whole<S: TextSource>()
 {
     ttx_air::laws::editions_are_taken();
     ttx_change::laws::schedules_are_whole();
+}
+
+/// A cycle that begins at another of its slots is the same cycle once it repeats: its slot `i` is the cycle's slot `i + at`.
+pub fn turns_send_the_same()
+    ensures { TurnsSendTheSame }
+{
+    ttx_page::laws::each_slot_turns();
 }

@@ -3,6 +3,7 @@
 
 mod author_refusals;
 mod certifying;
+mod changes;
 mod demand;
 mod house;
 mod late_words;
@@ -16,6 +17,7 @@ mod refusals;
 mod service_file;
 mod sharing;
 mod slow_pages;
+mod successor;
 mod terms;
 mod turns;
 

@@ -1,6 +1,7 @@
 //! The edition of a text.
 
-ghost use Rattle.std.specs.Prelude.{IfOk, IfErr};
+ghost use Rattle.std.specs.Prelude.{◌≡◌, IfOk, IfErr};
+ghost use Rattle.ttx_certificate.specs.Certificates.{certificate_of};
 ghost use Rattle.ttx_playout.specs.Takeovers.{edition_of};
 ghost use Rattle.ttx_press.specs.Refusals.{Says};
 ghost use Rattle.ttx_press.specs.Editions.{IsPrinted, IsSpoilt};
@@ -17,6 +18,7 @@ use ttx_playout::Edition;
 /// house. It is refused, in this order: if `check` refuses it; if it has no plan; if for some page a viewer waits longer than the deadline.
 pub fn printed(alloc: Global, house: House, text: &[u8]) -> Result<Edition, PressFault>
     ensures printed { IfOk result (λ edition. IsPrinted house text.now (edition_of edition)) }
+    ensures lines { IfOk result (λ edition. (certificate_of edition.certificate).lines ≡ edition.service.lines) }
     ensures refused { IfErr result (Says (IsSpoilt house text.now)) }
 {
     let script = read(alloc, text)?;

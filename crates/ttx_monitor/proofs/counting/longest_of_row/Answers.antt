@@ -1,4 +1,4 @@
-use Rattle.std.proofs.Common.{◌+◌, ◌*◌, sym, ap, ◌∙◌, subst}
+use Rattle.std.proofs.Common.{◌+◌, ◌*◌, sym, ap, subst}
 use Rattle.ttx_monitor.specs.Streaks.{IsLargestIn}
 use Rattle.ttx_monitor.proofs.FeedStreaks.{bounds}
 use Rattle.ttx_monitor.proofs.LongestStreaks.{placed}

@@ -11,7 +11,7 @@ abbrev pub invariant-loop-slot : goal.invariant-loop-slot
 invariant-loop-slot g l = record {
   told : (w : Watched) (bytes : List ℕ) → Stands l.initial.following.monitor w [] →
       IsLeft l.initial.following.ahead (g.R.Read.remaining l.initial.feed.inner) bytes → l.initial.following.tally ≡ nothing_yet →
-      FollowedSo w bytes (telling_of l.how) l.following (g.R.Read.remaining l.feed.inner) (g.W.Write.contents l.initial.writer.inner)
+      FollowedSo w bytes (telling_of g.V.Wording.words l.how) l.following (g.R.Read.remaining l.feed.inner) (g.W.Write.contents l.initial.writer.inner)
       (g.W.Write.contents l.writer.inner) l.slot;
   feed : l.feed.faults ≡ l.initial.feed.faults;
   writer : l.writer.faults ≡ l.initial.writer.faults;

@@ -1,4 +1,4 @@
-use Rattle.std.proofs.Common.{◌≡◌, ◌+◌, length, get_or, ◌++◌, ◌∷◌, [], None, ap, ◌∙◌, arith}
+use Rattle.std.proofs.Common.{get_or, ◌++◌, ◌∷◌, [], None, ap, ◌∙◌, arith}
 use Rattle.std.proofs.lemmas.List.{length_push}
 use Rattle.ttx_monitor.specs.Totals.{wrong_bytes}
 use Rattle.ttx_monitor.proofs.DueSlots.{some_slots, due_place, next_at, right_noted}

@@ -1,5 +1,5 @@
 use Rattle.std.proofs.Common.{rules, append_assoc}
-use Rattle.ttx_monitor.proofs.summary.push_minute.Goals as goal
+use Rattle.ttx_monitor.proofs.lines.push_minute.Goals as goal
 
 pub returns : goal.returns
 returns c = search (rules, append_assoc)

@@ -11,7 +11,7 @@ use Rattle.ttx_monitor.specs.Followed.{telling_of, Follows}
 use Rattle.ttx_monitor.specs.FeedReports.{telling_for, ReportsFrom}
 use Rattle.ttx_monitor.proofs.HeardFeeds.{if_known}
 use Rattle.ttx_monitor.proofs.ReportedFeeds.{failed}
-use Rattle.ttx_monitor.proofs.report.report_feed.Goals as goal
+use Rattle.ttx_monitor.proofs.report.report_feed_in.Goals as goal
 
 pub returns-in-Err-follow-clause-bytes : goal.returns-in-Err-follow-clause-bytes
 returns-in-Err-follow-clause-bytes g c =
@@ -27,8 +27,8 @@ returns-in-Err-follow-clause-bytes g c =
       start,
       subst (IsFoundIn cycle bytes) c.in_default.is b.found,
       b.begins,
-      failed cycle pages cert bytes (telling_for cycle pages cert c.args.asked start) old new c.follow.new.following c.in-Err-follow.fault
-          (subst (λ h. Follows w bytes h c.follow.new.following old new (Err c.in-Err-follow.fault)) c.how_of-how.ensures
+      failed cycle pages cert bytes (telling_for g.V.Wording.words cycle pages cert c.args.asked start) old new c.follow.new.following c.in-Err-follow.fault
+          (subst (λ h. Follows w bytes h c.follow.new.following old new (Err c.in-Err-follow.fault)) (c.how_of-how.ensures g.V.Wording.words)
           (c.in-Err-follow.ensures.told w bytes b.stands b.left b.none)),
     )))
     c.in-Ok.ensures.bytes
@@ -48,11 +48,11 @@ returns-clause-bytes g c =
       start,
       subst (IsFoundIn cycle bytes) c.in_default.is b.found,
       b.begins,
-      subst (λ h. ReportsFrom cycle pages cert bytes h old new c.conclude.result) c.how_of-how.ensures
+      subst (λ h. ReportsFrom cycle pages cert bytes h old new c.conclude.result) (c.how_of-how.ensures g.V.Wording.words)
           (c.conclude.ensures.bytes cycle pages cert bytes old (slots_of-IsCycle inputs.cycle) are
           (c.certificates_keep_their_rules.ensures inputs.certificate).1
-          (subst (λ s. Follows (watched cycle pages cert.repeat s) bytes (telling_of c.how_of-how.result) c.follow.new.following old mid
-          (Ok c.in-Ok-follow.followed)) (sym (ap (λ t. t.start) c.how_of-how.ensures))
+          (subst (λ s. Follows (watched cycle pages cert.repeat s) bytes (telling_of g.V.Wording.words c.how_of-how.result) c.follow.new.following old mid
+          (Ok c.in-Ok-follow.followed)) (sym (ap (λ t. t.start) (c.how_of-how.ensures g.V.Wording.words)))
           (c.in-Ok-follow.ensures.told (watched cycle pages cert.repeat start) bytes b.stands b.left b.none))),
     )))
     c.in-Ok.ensures.bytes
