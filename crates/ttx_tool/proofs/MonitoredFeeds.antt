@@ -14,17 +14,16 @@ use Rattle.ttx_files.specs.declared.told.Told.{Told}
 use Rattle.ttx_page.specs.Pages.{Page}
 use Rattle.ttx_source.specs.Services.{ServiceFields, pages_of}
 use Rattle.ttx_witness.specs.Certificates.{certificate_of}
-use Rattle.ttx_monitor.specs.FeedLines.{yes_text, rest_text}
 use Rattle.ttx_monitor.specs.FeedVerdicts.{IsFeedVerdict}
 use Rattle.ttx_monitor.specs.FeedReports.{telling_for, ReportsFeed}
-use Rattle.ttx_monitor.specs.Summaries.{sum_text}
+use Rattle.ttx_monitor.specs.Wordings.{sum_text}
 use Rattle.ttx_monitor.specs.declared.verdict.FeedVerdict.{FeedVerdict}
 use Rattle.ttx_monitor.specs.declared.verdict.FeedVerdict.TheVariants.{Unlike, Yes, No, Shifted}
 use Rattle.ttx_row_monitor.specs.RowVerdicts.{IsRowVerdict}
 use Rattle.ttx_row_monitor.specs.declared.verdict.RowVerdict.{RowVerdict}
 use Rattle.ttx_row_monitor.specs.declared.verdict.RowVerdict.TheVariants as row
 use Rattle.ttx_monitor.specs.declared.asked.Asked.{Asked}
-use Rattle.ttx_tool.specs.MonitorReports.{report_status, IsReportedAs, MonitorsLines, MeansReported}
+use Rattle.ttx_tool.specs.MonitorReports.{report_status, report_words, IsReportedAs, MonitorsLines, MeansReported}
 use Rattle.ttx_tool.specs.Monitor.{feed_status, row_status, feed_said, row_said, IsTelling, TellsFeed, IsFaultOfFeed, MonitorsText, Monitors, MeansReceived}
 use Rattle.ttx_tool.specs.declared.faults.ToolFault.{ToolFault}
 use Rattle.ttx_tool.specs.declared.faults.ToolFault.TheVariants.{Files, Plan, Class, Same, Counter, Feed}
@@ -179,23 +178,29 @@ means_if json by_rows named old new result (Some a) (Some b) None d m = tt
 means_if json by_rows named old new result (Some a) None c d m = tt
 means_if json by_rows named old new result None b c d m = tt
 
+-- the words of a yes in a report
+report_yes : (json : Bool) (pages : List Page) (start slots wrong streak rest : ℕ) →
+    (report_words json).verdict pages (Yes start slots wrong streak rest) ≡ feed_said json [] (Yes start slots wrong streak rest)
+report_yes false pages start slots wrong streak rest = refl
+report_yes true pages start slots wrong streak rest = refl
+
 -- the same of a report
-reports_mean : (a b c d : List ℕ) (asked : Asked) (old new : Option (List ℕ)) (slots : List (List ℕ)) (service : ServiceFields) (w : CertificateFields) →
+reports_mean : (json : Bool) (a b c d : List ℕ) (asked : Asked) (old new : Option (List ℕ)) (slots : List (List ℕ)) (service : ServiceFields) (w : CertificateFields) →
     IsPacketFile a slots → IsServiceText b service → IsCertificateText c w → (verdict : Option FeedVerdict) → zero ≡ report_status verdict →
-    ReportsFeed slots (pages_of service) (certificate_at w) asked d old new (Ok verdict) → MeansReported a b c d old new (Ok zero)
-reports_mean a b c d asked old new slots service w cycle_is service_is certificate_is None is r = absurd (omega arith)
-reports_mean a b c d asked old new slots service w cycle_is service_is certificate_is (Some (No start slot breach)) is r = absurd (omega arith)
-reports_mean a b c d asked old new slots service w cycle_is service_is certificate_is (Some (Shifted start slot by count)) is r = absurd (omega arith)
-reports_mean a b c d asked old new slots service w cycle_is service_is certificate_is (Some (Unlike unlike)) is r = absurd (omega arith)
-reports_mean a b c d asked old new slots service w cycle_is service_is certificate_is (Some (Yes start count wrong streak rest)) is (inl none) =
+    ReportsFeed (report_words json) slots (pages_of service) (certificate_at w) asked d old new (Ok verdict) → MeansReported json a b c d old new (Ok zero)
+reports_mean json a b c d asked old new slots service w cycle_is service_is certificate_is None is r = absurd (omega arith)
+reports_mean json a b c d asked old new slots service w cycle_is service_is certificate_is (Some (No start slot breach)) is r = absurd (omega arith)
+reports_mean json a b c d asked old new slots service w cycle_is service_is certificate_is (Some (Shifted start slot by count)) is r = absurd (omega arith)
+reports_mean json a b c d asked old new slots service w cycle_is service_is certificate_is (Some (Unlike unlike)) is r = absurd (omega arith)
+reports_mean json a b c d asked old new slots service w cycle_is service_is certificate_is (Some (Yes start count wrong streak rest)) is (inl none) =
     absurd none
-reports_mean a b c d asked old new slots service w cycle_is service_is certificate_is (Some (Yes start count wrong streak rest)) is (inr (inl other)) =
+reports_mean json a b c d asked old new slots service w cycle_is service_is certificate_is (Some (Yes start count wrong streak rest)) is (inr (inl other)) =
     absurd (unlike other.2.0)
   where
     unlike : Some (Yes start count wrong streak rest) ≡ Some (Unlike other.0) → ⊥
     unlike e = cc
-reports_mean a b c d asked old new slots service w cycle_is service_is certificate_is (Some (Yes start count wrong streak rest)) is (inr (inr r)) =
-    let g = telling_for slots (pages_of service) (certificate_at w) asked r.0 in
+reports_mean json a b c d asked old new slots service w cycle_is service_is certificate_is (Some (Yes start count wrong streak rest)) is (inr (inr r)) =
+    let g = telling_for (report_words json) slots (pages_of service) (certificate_at w) asked r.0 in
     let e = r.3 in
     let h = e.3.said.1 in (
       e.0,
@@ -205,7 +210,9 @@ reports_mean a b c d asked old new slots service w cycle_is service_is certifica
       wrong,
       streak,
       rest,
-      subst (Appends old new) (sym (append_assoc e.0 (yes_text start count wrong streak ++ rest_text rest) (sum_text g e.1))) e.4,
+      subst (λ said. Appends old new (e.0 ++ said ++ sum_text g e.1)) (report_yes json (pages_of service) start count wrong streak rest)
+          (subst (Appends old new)
+          (sym (append_assoc e.0 ((report_words json).verdict (pages_of service) (Yes start count wrong streak rest)) (sum_text g e.1))) e.4),
       record {
         slots = slots;
         service = service;
@@ -222,26 +229,26 @@ reports_mean a b c d asked old new slots service w cycle_is service_is certifica
       },
     )
 
-pub report_means : (a b c d : List ℕ) (asked : Asked) (old new : Option (List ℕ)) (result : Result ℕ ToolFault) →
-    MonitorsLines a b c asked d old new result → MeansReported a b c d old new result
-report_means a b c d asked old new (Ok zero) (inl refused) = absurd refused.0
-report_means a b c d asked old new (Ok zero) (inr m) = reports_mean a b c d asked old new m.0 m.1 m.2 m.3 m.4 m.5 m.6.0 m.6.1 m.6.2
-report_means a b c d asked old new (Ok (suc n)) m = tt
-report_means a b c d asked old new (Err fault) m = tt
+pub report_means : (json : Bool) (a b c d : List ℕ) (asked : Asked) (old new : Option (List ℕ)) (result : Result ℕ ToolFault) →
+    MonitorsLines json a b c asked d old new result → MeansReported json a b c d old new result
+report_means json a b c d asked old new (Ok zero) (inl refused) = absurd refused.0
+report_means json a b c d asked old new (Ok zero) (inr m) = reports_mean json a b c d asked old new m.0 m.1 m.2 m.3 m.4 m.5 m.6.0 m.6.1 m.6.2
+report_means json a b c d asked old new (Ok (suc n)) m = tt
+report_means json a b c d asked old new (Err fault) m = tt
 
-pub report_means_if : (asked : Asked) (old new : Option (List ℕ)) (result : Result ℕ ToolFault) (a b c d : Option (List ℕ)) →
-    IfSome a (λ x. IfSome b (λ y. IfSome c (λ z. IfSome d (λ u. MonitorsLines x y z asked u old new result)))) →
-    IfSome a (λ x. IfSome b (λ y. IfSome c (λ z. IfSome d (λ u. MeansReported x y z u old new result))))
-report_means_if asked old new result (Some a) (Some b) (Some c) (Some d) m = report_means a b c d asked old new result m
-report_means_if asked old new result (Some a) (Some b) (Some c) None m = tt
-report_means_if asked old new result (Some a) (Some b) None d m = tt
-report_means_if asked old new result (Some a) None c d m = tt
-report_means_if asked old new result None b c d m = tt
+pub report_means_if : (json : Bool) (asked : Asked) (old new : Option (List ℕ)) (result : Result ℕ ToolFault) (a b c d : Option (List ℕ)) →
+    IfSome a (λ x. IfSome b (λ y. IfSome c (λ z. IfSome d (λ u. MonitorsLines json x y z asked u old new result)))) →
+    IfSome a (λ x. IfSome b (λ y. IfSome c (λ z. IfSome d (λ u. MeansReported json x y z u old new result))))
+report_means_if json asked old new result (Some a) (Some b) (Some c) (Some d) m = report_means json a b c d asked old new result m
+report_means_if json asked old new result (Some a) (Some b) (Some c) None m = tt
+report_means_if json asked old new result (Some a) (Some b) None d m = tt
+report_means_if json asked old new result (Some a) None c d m = tt
+report_means_if json asked old new result None b c d m = tt
 
-module _ (inputs : Inputs) (asked : Asked) (old new : Option (List ℕ)) (result : Result ℕ ToolFault) where
+module _ (inputs : Inputs) (json : Bool) (asked : Asked) (old new : Option (List ℕ)) (result : Result ℕ ToolFault) where
   pub lines_of : (a b c d : Option (List ℕ)) → IfSome a (λ x. IfSome b (λ y. IfSome c (λ z. ReadsInputs x y z (Ok inputs)))) →
-      IfSome d (λ u. IsReportedAs (ReportsFeed (slots_of inputs.cycle) (pages_of inputs.service) (certificate_of inputs.certificate) asked u old new) result) →
-      IfSome a (λ x. IfSome b (λ y. IfSome c (λ z. IfSome d (λ u. MonitorsLines x y z asked u old new result))))
+      IfSome d (λ u. IsReportedAs (ReportsFeed (report_words json) (slots_of inputs.cycle) (pages_of inputs.service) (certificate_of inputs.certificate) asked u old new) result) →
+      IfSome a (λ x. IfSome b (λ y. IfSome c (λ z. IfSome d (λ u. MonitorsLines json x y z asked u old new result))))
   lines_of (Some a) (Some b) (Some c) (Some d) read is =
       inr (slots_of inputs.cycle, inputs.service, fields_of inputs.certificate, read.0, read.1, read.2, is)
   lines_of (Some a) (Some b) (Some c) None read is = tt

@@ -10,6 +10,7 @@ use ttx_cycle::Counted;
 use ttx_kinds::Place;
 use ttx_monitor::Asked;
 use ttx_tool::commands::monitor::Judged;
+use ttx_tool::commands::monitor_reports::Reported;
 use ttx_tool::{ToolFault, commands};
 
 // The status of a command on a claim and a feed; says which input is of another kind than its place takes.
@@ -39,7 +40,12 @@ fn monitor_feed(rt: &HostRuntime, claim: Claim, feed: Input, how: Judged) -> Res
     Ok(feed_told(rt, &readers, &feed, answer))
 }
 
-fn report_feed(rt: &HostRuntime, claim: Claim, feed: Input, asked: Asked) -> Result<u8, ToolFault> {
+fn report_feed(
+    rt: &HostRuntime,
+    claim: Claim,
+    feed: Input,
+    how: Reported,
+) -> Result<u8, ToolFault> {
     let mut readers = claim.readers(rt)?;
     let mut feed = recorded(rt, feed)?;
     let mut writer = Counted::new(io::writer(rt));
@@ -48,7 +54,7 @@ fn report_feed(rt: &HostRuntime, claim: Claim, feed: Input, asked: Asked) -> Res
         &mut readers.cycle,
         &mut readers.service,
         &mut readers.text,
-        asked,
+        how,
         &mut feed,
         &mut writer,
     );
@@ -75,5 +81,9 @@ pub fn monitor(rt: &HostRuntime, order: &MonitorOrder<'_>) -> Outcome {
             None => None,
         },
     };
-    Ok(status_of(rt, report_feed(rt, claim, feed, asked)))
+    let how = Reported {
+        asked,
+        json: order.json,
+    };
+    Ok(status_of(rt, report_feed(rt, claim, feed, how)))
 }

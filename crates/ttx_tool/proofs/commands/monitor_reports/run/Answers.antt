@@ -19,7 +19,7 @@ returns-in-Err-clause-faults g c =
 
 pub returns-clause-bytes : goal.returns-clause-bytes
 returns-clause-bytes g c =
-    lines_of c.in-Ok.inputs c.args.asked (g.W.Write.contents (inner_of c.args.writer.now)) (g.W.Write.contents (inner_of c.report.new.writer))
+    lines_of c.in-Ok.inputs c.args.how.json c.args.how.asked (g.W.Write.contents (inner_of c.args.writer.now)) (g.W.Write.contents (inner_of c.report.new.writer))
     c.report.result (g.A.Read.remaining (inner_of c.args.cycle.now)) (g.B.Read.remaining (inner_of c.args.service.now))
     (g.C.Read.remaining (inner_of c.args.certificate.now)) (g.R.Read.remaining (inner_of c.args.feed.now)) c.in-Ok.ensures.bytes c.report.ensures.bytes
 
@@ -35,6 +35,6 @@ returns-clause-faults g c =
 
 pub returns-clause-means : goal.returns-clause-means
 returns-clause-means g c =
-    report_means_if c.args.asked (g.W.Write.contents (inner_of c.args.writer.now)) (g.W.Write.contents (inner_of c.report.new.writer))
+    report_means_if c.args.how.json c.args.how.asked (g.W.Write.contents (inner_of c.args.writer.now)) (g.W.Write.contents (inner_of c.report.new.writer))
     c.report.result (g.A.Read.remaining (inner_of c.args.cycle.now)) (g.B.Read.remaining (inner_of c.args.service.now))
     (g.C.Read.remaining (inner_of c.args.certificate.now)) (g.R.Read.remaining (inner_of c.args.feed.now)) (returns-clause-bytes g c)
