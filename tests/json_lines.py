@@ -15,7 +15,7 @@ import tempfile
 import cases
 
 # the commands with --json, each with the least number of cases that are compared
-COMMANDS = {"certify": 100, "check": 40, "monitor": 35, "wait": 20, "refute": 8, "pages": 6}
+COMMANDS = {"certify": 100, "check": 40, "monitor": 45, "wait": 20, "refute": 8, "pages": 6}
 # options whose plain lines have all that the objects have; they are left out with --json
 PLAIN = {"check": b"--long"}
 # what follows the item in the line of a reason
