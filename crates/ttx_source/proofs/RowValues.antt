@@ -95,11 +95,11 @@ as_many : (f : List ℕ → Option Data) → 24 ≡ length (map f row_keys)
 unfolding row_keys
 as_many f = refl
 
-row_count : length row_keys ≡ 24
+pub row_count : length row_keys ≡ 24
 unfolding row_keys
 row_count = refl
 
-row_here : (r : ℕ) → r < 24 → r < length row_keys
+pub row_here : (r : ℕ) → r < 24 → r < length row_keys
 unfolding row_keys
 row_here r here = here
 
