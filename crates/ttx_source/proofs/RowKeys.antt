@@ -1,5 +1,5 @@
 -- The keys of rows as numbers: each is the word of a number from 1 to 24, and no other word is read as one of these.
-use Rattle.std.proofs.Common.{◌≡◌, ◌∙◌, ◌<◌, ◌≤◌, ◌+◌, ◌-◌, ℕ, List, [], length, Bool, true, false, Option, Some, None}
+use Rattle.std.proofs.Common.{◌≡◌, ◌∙◌, ◌<◌, ◌≤◌, ◌+◌, ◌-◌, ℕ, List, [], true, false, Option, Some, None}
 use Rattle.std.proofs.Common.{ap, refl, sym, get_or, arith, is_some, inl, inr, subst}
 use Rattle.std.specs.Fmt.{decimal}
 use Rattle.std.specs.List.{position, range_with_len}
