@@ -28,21 +28,6 @@ small_union a b la lb =
     agree_below_at (λ b. nat_lt (bit_or a b) 128) (λ b. nat_lt a 128 && nat_lt b 128) 256 b
     (agree_below_at (λ a. agree_below (λ b. nat_lt (bit_or a b) 128) (λ b. nat_lt a 128 && nat_lt b 128) 256) (λ _. true) 256 a unions la) lb
 
--- spaces at the end do not change the test for codes below 128
-spaces_are_plain : (n : ℕ) → list_all (λ b. nat_lt b 128) (replicate n 32) ≡ true
-spaces_are_plain zero = refl
-spaces_are_plain (suc n) = spaces_are_plain n
-
-and_true : (b : Bool) → (b && true) ≡ b
-and_true true = refl
-and_true false = refl
-
-pub plain_padded : (bs : List ℕ) (n : ℕ) → list_all (λ b. nat_lt b 128) (bs ++ replicate n 32) ≡ list_all (λ b. nat_lt b 128) bs
-plain_padded bs n =
-    list_all-append (λ b. nat_lt b 128) bs (replicate n 32)
-    ∙ ap (λ t. list_all (λ b. nat_lt b 128) bs && t) (spaces_are_plain n)
-    ∙ and_true _
-
 -- a text does not have more characters than bytes
 chars_after_le : (n c : ℕ) (bs : List ℕ) → length (chars_after n c bs) ≤ length bs + 1
 chars_after_le zero c [] = omega arith

@@ -127,18 +127,6 @@ is_some-position {A = A} p xs = ap is_some (position_from-zero p xs) ∙ found 0
           | inr fails ↦ rw fails (found (n + 1) xs)
         ]
 
--- the row at a position among the keys
-pub row_placed : (keys : List (Bor (List ℕ))) (key : List ℕ) (place : Option ℕ) → map (λ name. name.now) keys ≡ row_keys
-    → place ≡ position (λ name. bytes_eq name.now key) keys → IfSome place (λ i. (i < 24) × (get_or row_keys i [] ≡ key))
-row_placed keys key None same at = tt
-row_placed keys key (Some i) same at =
-    let none : Bor (List ℕ) = record { ref_ptr = (0, 0); now = [] } in
-    let (inside, passes, first) = position-Some (λ (name : Bor (List ℕ)). bytes_eq name.now key) keys i none (sym at) in (
-      subst (λ n. i < n) (sym (length-map keys (λ name. name.now)) ∙ ap length same ∙ row_count) inside,
-      subst (λ rows. get_or rows i [] ≡ (get_or keys i none).now) same (get_or-map (λ name. name.now) keys i none [] inside)
-          ∙ (bytes_eq-Decides (get_or keys i none).now key).0 passes,
-    )
-
 pub keys_more : (k : List ℕ) (v : Data) (table : Members) → is_row_key k ≡ true → keys_pass is_row_key (member k v table) ≡ keys_pass is_row_key table
 keys_more k v table h = rw h
 

@@ -1,8 +1,6 @@
 //! The rows of a page.
 
-ghost use Rattle.std.specs.Prelude.{◌≡◌, ◌<◌, [], map, option_map, is_some, replicate, slice_index_or, codes, IfOk, IfSome};
-ghost use Rattle.std.specs.List.{position};
-ghost use Rattle.std.specs.Str.{bytes_eq};
+ghost use Rattle.std.specs.Prelude.{◌≡◌, ◌<◌, [], map, option_map, is_some, replicate, slice_index_or, IfOk, IfSome};
 ghost use Rattle.toml.specs.View.{table_view, view};
 ghost use Rattle.ttx_page.specs.Pages.{IsRow};
 ghost use Rattle.ttx_source.specs.Keys as rule;
