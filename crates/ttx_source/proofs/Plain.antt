@@ -1,9 +1,8 @@
 -- Texts: in a text of codes below 128 each character is one byte, and some bytes are not a text.
-use Rattle.std.proofs.Common.{◌≡◌, ◌∙◌, ◌<◌, ◌≤◌, ◌+◌, ◌-◌, ◌*◌, ◌++◌, ◌&&◌, Bool, true, length, List, ℕ, zero, suc, nat_lt, bit_or, replicate, []}
+use Rattle.std.proofs.Common.{◌≡◌, ◌<◌, ◌≤◌, ◌+◌, ◌-◌, ◌*◌, ◌&&◌, true, length, List, ℕ, zero, suc, nat_lt, bit_or, []}
 use Rattle.std.proofs.Common.{◌∷◌, arith, ap, refl, false, inl, inr}
 use Rattle.std.specs.List.{list_all}
 use Rattle.std.specs.Str.{chars, chars_after, continuation_len, lead_bits, IsAscii, IsUtf8, is_utf8}
-use Rattle.std.proofs.lemmas.List.Folds.{list_all-append}
 use Rattle.std.proofs.lemmas.Bool.{agree_below, agree_below_at, and_parts, cases_Bool}
 use Rattle.std.proofs.lemmas.Bool.Decides.{nat_tests}
 use Rattle.std.proofs.lemmas.Str.{chars-IsAscii, IsUtf8-from_is_utf8}
