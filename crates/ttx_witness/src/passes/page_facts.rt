@@ -106,6 +106,26 @@ fn facts_after(facts: Facts, page: &Page, number: u8, slot: &NumberedSlot, limit
     }
 }
 
+// Adds a slot that sends row `number` of the page. No other fact than that of the rows can change.
+fn note_row(facts: &mut Facts, page: &Page, number: u8, slot: &NumberedSlot)
+    requires above { 0 < number }
+    requires below { number < 25 }
+    ensures { (limit : ℕ) → Noted limit (page_of page.now) (λ item. item_number item == number) slot.now.bytes.now slot.now.at facts.old facts.new }
+{
+    facts.row = first_of(facts.row, is_row_wrong(page, number, slot.bytes), slot.at);
+}
+
+// Adds a slot that sends item `number` of the page.
+fn note_item(facts: &mut Facts, page: &Page, number: u8, slot: &NumberedSlot, limit: u32)
+    ensures { Noted limit (page_of page.now) (λ item. item_number item == number) slot.now.bytes.now slot.now.at facts.old facts.new }
+{
+    if 0 < number && number < 25 {
+        note_row(facts, page, number, slot);
+    } else {
+        *facts = facts_after(*facts, page, number, slot, limit);
+    }
+}
+
 /// Adds what a slot sends to the facts of its page.
 pub fn note_sent(
     all: &mut Vec<Facts>,
@@ -124,7 +144,7 @@ pub fn note_sent(
     };
     let at = s.page as usize;
     if at < all.len() && at < pages.len() {
-        all[at] = facts_after(all[at], &pages[at], s.number, slot, limit);
+        note_item(&mut all[at], &pages[at], s.number, slot, limit);
     }
 }
 

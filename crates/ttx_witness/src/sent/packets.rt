@@ -1,16 +1,28 @@
 //! The packets in slots: headers, rows and links.
 
-ghost use Rattle.std.specs.Prelude.{◌≡◌, MatchOption};
+ghost use Rattle.std.specs.Prelude.{◌≡◌, true, MatchOption, SomeIff};
+ghost use Rattle.ttx_header.specs.Headers.{is_header, header_fields_of};
 ghost use Rattle.ttx_page.specs.Packets.{packet_of};
 ghost use Rattle.ttx_page.specs.Streams.{heads_page, carries};
 ghost use Rattle.ttx_page.specs.declared.item.Item.TheVariants.{Row as TheRow, Links as TheLinks};
 ghost use Rattle.ttx_witness.specs.faults.Comparing.{HoldsHeader, HoldsNoHeader, HoldsRow, HoldsNoRow, HoldsLinks, mine_after};
 ghost use Rattle.ttx_witness.specs.faults.Comparing.{HoldsNoLinks, sends, heads_other_subpage};
 
-use ttx_header::{Header, PageId, read_header};
+use ttx_header::parts::number_at;
+use ttx_header::{Header, PageId};
 use ttx_packet::place::Address;
 use ttx_packet::{Slot, slot_of};
 use ttx_page::{Item, RowNumber};
+
+/// Reads the page header in the 42 bytes of a slot. Most packets are rows, so the packet number is looked at before the header is read.
+pub fn read_header(slot: &[u8; 42]) -> Option<Header>
+    ensures { SomeIff result (is_header slot.now ≡ true) (header_fields_of slot.now) }
+{
+    if number_at(slot, 1) != 0 || number_at(slot, 0) >= 8 {
+        return None;
+    }
+    ttx_header::read_header(slot)
+}
 
 /// The page header in a slot, if there is one.
 pub fn header_in(slot: &[u8; 42]) -> Option<Header>
