@@ -1,9 +1,10 @@
--- The first slots of a page that differ from it. They are kept while the page's transmissions are taken one by one, in any order.
+-- The first slots of a page that differ from it. They are kept while the page's transmissions are taken one by one, in any
+-- order. Headers of other subpages are no transmissions of the page: the first one is found by itself.
 --
 --   earlier, noted, IsNoted the earlier of two slots; the first slot so far where a property holds, after one more slot
 --   RowWrong                a slot sends something else for a row that a viewer sees
 --   IsAfter                 the first slots after slot j; `sends` says which items the slot sends
---   none_yet                the first slots before any is taken; the first header of another subpage is known by then
+--   none_yet                the first slots before any is taken
 --   IsLeastOf               the first slot where a property holds, or None if there is none
 --   TakesWrong, TakesWrongRow       slot j is taken as a transmission of an item, and differs from the page
 --   AreFirstTaken           the first slots of those that are taken; `Taken item j` says that slot j is, as a transmission of the item
@@ -45,14 +46,13 @@ pub record RowWrong (p : Page) (sends : Item → Bool) (slot : List ℕ) : Type 
 
 pub record IsAfter (p : Page) (sends : Item → Bool) (slot : List ℕ) (j : ℕ) (old new : FirstSlots) : Type 0 where
   pub has_header : new.has_header ≡ (old.has_header || sends TheHead)
-  pub other_subpage : new.other_subpage ≡ old.other_subpage
   pub erased : IsNoted ((sends TheHead ≡ true) × IsWrong p EraseBit slot) j old.erased new.erased
   pub head : IsNoted ((sends TheHead ≡ true) × IsWrong p CheckHead slot) j old.head new.head
   pub row : IsNoted (RowWrong p sends slot) j old.row new.row
   pub links : IsNoted ((sends TheLinks ≡ true) × IsWrong p CheckLinks slot) j old.links new.links
 
-abbrev pub none_yet : Option ℕ → FirstSlots
-none_yet other = record { has_header = false; other_subpage = other; erased = None; head = None; row = None; links = None }
+abbrev pub none_yet : FirstSlots
+none_yet = record { has_header = false; other_subpage = None; erased = None; head = None; row = None; links = None }
 
 abbrev pub IsLeastOf : (ℕ → Type 0) → Option ℕ → Type 0
 IsLeastOf P None = (j : ℕ) → P j → ⊥
@@ -67,9 +67,8 @@ pub record TakesWrongRow (p : Page) (s : Stream) (Taken : Item → ℕ → Type 
   pub needed : needed p (TheRow row) ≡ true
   pub wrong : TakesWrong p s Taken (CheckRow row) j
 
-pub record AreFirstTaken (p : Page) (s : Stream) (Taken : Item → ℕ → Type 0) (other : Option ℕ) (f : FirstSlots) : Type 0 where
+pub record AreFirstTaken (p : Page) (s : Stream) (Taken : Item → ℕ → Type 0) (f : FirstSlots) : Type 0 where
   pub has_header : IsTrue f.has_header ↔ ((j : ℕ) × Taken TheHead j)
-  pub other_subpage : f.other_subpage ≡ other
   pub erased : IsLeastOf (TakesWrong p s Taken EraseBit) f.erased
   pub head : IsLeastOf (TakesWrong p s Taken CheckHead) f.head
   pub row : IsLeastOf (TakesWrongRow p s Taken) f.row

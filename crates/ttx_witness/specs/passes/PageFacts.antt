@@ -45,7 +45,7 @@ heads_of limit heads (t ∷ ts) = heads_of limit (heads_after limit t.slot true 
 
 pub record AreFacts (w : Certificate) (p : Page) (s : Stream) (entry : Option PageOwner) (n : ℕ) (f : Facts) : Type 0 where
   pub heads : f.heads ≡ heads_of (limit w) None (sent_scan p.id w.lines TheHead s entry n)
-  pub first : AreFirstTaken p s (SentBelow p.id s entry n) None f.first
+  pub first : AreFirstTaken p s (SentBelow p.id s entry n) f.first
 
 abbrev pub late_in : ℕ → ℤ → Heads → Option ℕ → Option ℕ
 late_in limit end h None = if int_lt (h.last +ℤ pos limit) end then Some (unsigned_abs h.last) else None

@@ -26,13 +26,13 @@ pub struct FirstSlots {
     pub links: Option<u32>,
 }
 
-/// The first slots before any transmission of the page is taken. `other_subpage` is the first header of another subpage.
-pub fn none_yet(other_subpage: Option<u32>) -> FirstSlots
-    ensures { result ≡ none_yet other_subpage }
+/// The first slots before any transmission of the page is taken.
+pub fn none_yet() -> FirstSlots
+    ensures { result ≡ none_yet }
 {
     FirstSlots {
         has_header: false,
-        other_subpage,
+        other_subpage: None,
         erased: None,
         head: None,
         row: None,
@@ -95,6 +95,16 @@ pub fn after_slot(
         head: noted(first.head, head, at),
         row: noted(first.row, is_row_wrong(page, number, slot), at),
         links: noted(first.links, links, at),
+    }
+}
+
+/// The first slots, with the first header of another subpage.
+pub fn with_other_subpage(first: FirstSlots, other_subpage: Option<u32>) -> FirstSlots
+    ensures { result ≡ record first { other_subpage = other_subpage } }
+{
+    FirstSlots {
+        other_subpage,
+        ..first
     }
 }
 

@@ -1,6 +1,6 @@
 //! The first fault of a page: from the slots of a cycle, without allocating memory, or from the transmissions of its items in a period.
 
-ghost use Rattle.std.specs.Prelude.{◌≡◌, ◌<◌, ◌+◌, ◌==◌, [], ℕ, List, Option, None, Some, length, map, pos, slice_get, slice_index_or};
+ghost use Rattle.std.specs.Prelude.{◌≡◌, ◌<◌, ◌+◌, ◌==◌, [], ℕ, List, None, Some, length, map, pos, slice_get, slice_index_or};
 ghost use Rattle.ttx_cycle.specs.Cycles.{slots_of};
 ghost use Rattle.ttx_page.specs.Pages as definitions;
 ghost use Rattle.ttx_page.specs.Views.{page_of};
@@ -14,7 +14,9 @@ ghost use Rattle.ttx_witness.specs.faults.Comparing.{is_mine, is_number_of, Othe
 ghost use Rattle.ttx_witness.specs.faults.Faults.{TellsFirst, IsPageFault};
 ghost use Rattle.ttx_witness.specs.faults.FirstSlots.{IsAfter, AreFirstTaken, SentBelow, TakenBelow};
 
-use crate::faults::first_slots::{FirstSlots, after_slot, least_fault, none_yet};
+use crate::faults::first_slots::{
+    FirstSlots, after_slot, least_fault, none_yet, with_other_subpage,
+};
 use crate::faults::reason::Reason;
 use crate::runs::transmissions::Transmission;
 use crate::sent::collected::Collected;
@@ -80,13 +82,13 @@ fn after_sent(
 }
 
 // The first slots of the page in a period. `mine` says whether the latest header of its magazine before the period is the page's.
-fn first_in_cycle(cycle: &Cycle, page: &Page, mine: bool, other_subpage: Option<u32>) -> FirstSlots
+fn first_in_cycle(cycle: &Cycle, page: &Page, mine: bool) -> FirstSlots
     requires { mine ≡ is_mine (entry_owner (slots_of cycle.now) (page_of page.now).id) }
     ensures { AreFirstTaken (page_of page.now) (repeated (slots_of cycle.now)) (SentBelow (page_of page.now).id (repeated (slots_of cycle.now))
-        (entry_owner (slots_of cycle.now) (page_of page.now).id) (length (slots_of cycle.now))) other_subpage result }
+        (entry_owner (slots_of cycle.now) (page_of page.now).id) (length (slots_of cycle.now))) result }
 {
     let slots = cycle.slots();
-    let (mut mine, mut first) = (mine, none_yet(other_subpage));
+    let (mut mine, mut first) = (mine, none_yet());
     for j in 0..slots.len() {
         let sent = item_sent(page.id(), &slots[j], mine);
         first = after_sent(first, page, sent, &slots[j], j as u32);
@@ -105,8 +107,8 @@ pub fn page_fault(cycle: &Cycle, pages: &[Page], index: usize) -> Option<Reason>
     let page = &pages[index];
     let mine = is_mine_at_end(cycle, page.id());
     let other_subpage = first_other_subpage(cycle, pages, index);
-    let first = first_in_cycle(cycle, page, mine, other_subpage);
-    least_fault(page.id(), first)
+    let first = first_in_cycle(cycle, page, mine);
+    least_fault(page.id(), with_other_subpage(first, other_subpage))
 }
 
 // The first slots after one more transmission of item `number`.
@@ -138,10 +140,10 @@ fn after_item(
     number: u8,
     sent: &[Transmission],
 ) -> FirstSlots
-    ensures { (lines : ℕ) (item : ItemValue) (other : Option ℕ) → IsItem item → item_number item ≡ number →
+    ensures { (lines : ℕ) (item : ItemValue) → IsItem item → item_number item ≡ number →
         sent.now ≡ sent_in (slots_of cycle.now) (page_of page.now).id lines item →
-        AreFirstTaken (page_of page.now) (repeated (slots_of cycle.now)) (TakenBelow (slots_of cycle.now) (page_of page.now).id number) other first →
-        AreFirstTaken (page_of page.now) (repeated (slots_of cycle.now)) (TakenBelow (slots_of cycle.now) (page_of page.now).id (number + 1)) other result }
+        AreFirstTaken (page_of page.now) (repeated (slots_of cycle.now)) (TakenBelow (slots_of cycle.now) (page_of page.now).id number) first →
+        AreFirstTaken (page_of page.now) (repeated (slots_of cycle.now)) (TakenBelow (slots_of cycle.now) (page_of page.now).id (number + 1)) result }
 {
     let mut first = first;
     for i in 0..sent.len() {
@@ -151,18 +153,12 @@ fn after_item(
 }
 
 // The first slots of the page among the transmissions that were collected in a period.
-fn first_collected(
-    cycle: &Cycle,
-    page: &Page,
-    collected: &Collected,
-    index: usize,
-    other_subpage: Option<u32>,
-) -> FirstSlots
+fn first_collected(cycle: &Cycle, page: &Page, collected: &Collected, index: usize) -> FirstSlots
     ensures { (pages : List definitions.Page) (lines : ℕ) → AreAllSent (slots_of cycle.now) pages lines collected.now →
         slice_get pages index ≡ Some (page_of page.now) →
-        AreFirstTaken (page_of page.now) (repeated (slots_of cycle.now)) (TakenBelow (slots_of cycle.now) (page_of page.now).id 26) other_subpage result }
+        AreFirstTaken (page_of page.now) (repeated (slots_of cycle.now)) (TakenBelow (slots_of cycle.now) (page_of page.now).id 26) result }
 {
-    let mut first = none_yet(other_subpage);
+    let mut first = none_yet();
     for number in 0..26u8 {
         let sent = collected.sent(index, item_of(number));
         first = after_item(first, cycle, page, number, sent);
@@ -186,6 +182,6 @@ pub fn fault_of(
         TellsFirst (slots_of cycle.now) (OtherSubpageAt (repeated (slots_of cycle.now)) pages (page_of page.now)) other_subpage →
         IsPageFault (slots_of cycle.now) pages (page_of page.now) result }
 {
-    let first = first_collected(cycle, page, collected, index, other_subpage);
-    least_fault(page.id(), first)
+    let first = first_collected(cycle, page, collected, index);
+    least_fault(page.id(), with_other_subpage(first, other_subpage))
 }

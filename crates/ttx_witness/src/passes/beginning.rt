@@ -20,11 +20,11 @@ use ttx_page::Page;
 
 // Empty facts for `count` pages.
 fn no_facts(alloc: Global, count: usize) -> Result<Vec<Facts>, NoMemory>
-    ensures { IfOk result (λ all. all.items ≡ replicate count (record { heads = None; first = none_yet None })) }
+    ensures { IfOk result (λ all. all.items ≡ replicate count (record { heads = None; first = none_yet })) }
 {
     let none = Facts {
         heads: None,
-        first: none_yet(None),
+        first: none_yet(),
     };
     match vec![in alloc; none; count] {
         Ok(all) => Ok(all),

@@ -6,7 +6,7 @@ ghost use Rattle.ttx_page.specs.Pages as definitions;
 ghost use Rattle.ttx_page.specs.Views.{page_of};
 ghost use Rattle.ttx_witness.specs.faults.OtherSubpages as tables;
 
-use crate::faults::first_slots::{FirstSlots, least_fault};
+use crate::faults::first_slots::{least_fault, with_other_subpage};
 use crate::faults::reason::Reason;
 use crate::faults::subcodes::place;
 use crate::passes::other_headers::OtherHeaders;
@@ -44,16 +44,6 @@ fn facts_at(all: &[Facts], index: usize) -> Option<Facts>
     ensures { result ≡ slice_get all.now index }
 {
     all.get(index).copied()
-}
-
-// The first slots with the first header of another subpage.
-fn with_other_subpage(first: FirstSlots, other_subpage: Option<u32>) -> FirstSlots
-    ensures { result ≡ record first { other_subpage = other_subpage } }
-{
-    FirstSlots {
-        other_subpage,
-        ..first
-    }
 }
 
 impl<'a> EndedPass<'a> {

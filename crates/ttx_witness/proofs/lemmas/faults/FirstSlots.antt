@@ -40,10 +40,6 @@ tells_same cycle P Q same None f = λ j q. f j ((same j).1 q)
 tells_same cycle P Q same (Some slot) f = record
     { within = f.within; here = (same (pos slot)).0 f.here; none_before = λ i lt q. f.none_before i lt ((same (pos i)).1 q) }
 
-least_same : (P Q : ℕ → Type 0) → ((j : ℕ) → P j ↔ Q j) → (o : Option ℕ) → IsLeastOf P o → IsLeastOf Q o
-least_same P Q same None f = λ j q. f j ((same j).1 q)
-least_same P Q same (Some i) f = ((same i).0 f.0, (λ j lt q. f.1 j lt ((same j).1 q)))
-
 -- the first slot after slot j, where H holds or not
 module _ (P Q : ℕ → Type 0) (H : Type 0) (j : ℕ) (same : (i : ℕ) → Q i ↔ (P i ⊎ ((i ≡ j) × H))) where
   before : (H → ⊥) → (i : ℕ) → Q i → P i
@@ -76,41 +72,59 @@ or_is : (a b : Bool) → ((a || b) ≡ true) ↔ ((a ≡ true) ⊎ (b ≡ true))
 or_is true b = ((λ e. inl refl), (λ h. refl))
 or_is false b = ((λ e. inr e), (λ h. elim h as (λ _. b ≡ true) [ inl e ↦ cc | inr e ↦ e ]))
 
--- one more slot is taken
-module _ (p : Page) (s : Stream) (Old New : Item → ℕ → Type 0) (sent : Item → Bool) (j : ℕ)
-    (same : (item : Item) → IsItem item → (i : ℕ) → New item i ↔ (Old item i ⊎ ((i ≡ j) × (sent item ≡ true)))) where
+-- a slot that sends nothing of the page
+pub after_none : (p : Page) (sends : Item → Bool) (slot : List ℕ) (j : ℕ) (x : FirstSlots) → ((item : Item) → sends item ≡ false) →
+    IsAfter p sends slot j x x
+after_none p sends slot j x none = record {
+  has_header = or_none x.has_header (sends TheHead) (none TheHead);
+  erased = not_noted x.erased (λ h. both_ways _ (none TheHead) h.0);
+  head = not_noted x.head (λ h. both_ways _ (none TheHead) h.0);
+  row = not_noted x.row (λ h. both_ways _ (none _) h.sent);
+  links = not_noted x.links (λ h. both_ways _ (none TheLinks) h.0);
+}
+  where
+    or_none : (a b : Bool) → b ≡ false → a ≡ (a || b)
+    or_none true b e = refl
+    or_none false b e = sym e
+
+    not_noted : {P : Type 0} (o : Option ℕ) → (P → ⊥) → IsNoted P j o o
+    not_noted o not = record { holds = false; exact = ((λ e. cc), (λ h. absurd (not h))); first = refl }
+
+-- one more slot is taken, perhaps of a stream that has grown
+module _ (p : Page) (s t : Stream) (Old New : Item → ℕ → Type 0) (sent : Item → Bool) (j : ℕ)
+    (same : (item : Item) → IsItem item → (i : ℕ) → New item i ↔ (Old item i ⊎ ((i ≡ j) × (sent item ≡ true))))
+    (kept : (item : Item) (i : ℕ) → Old item i → s (pos i) ≡ t (pos i)) where
   abbrev Here : Check → Type 0
-  Here check = (sent (compared_item check) ≡ true) × IsWrong p check (s (pos j))
+  Here check = (sent (compared_item check) ≡ true) × IsWrong p check (t (pos j))
 
   wrong_more : (check : Check) → IsItem (compared_item check) → (i : ℕ) →
-      TakesWrong p s New check i ↔ (TakesWrong p s Old check i ⊎ ((i ≡ j) × Here check))
+      TakesWrong p t New check i ↔ (TakesWrong p s Old check i ⊎ ((i ≡ j) × Here check))
   wrong_more check it i = (
     (λ w. elim ((same (compared_item check) it i).0 w.taken) as (λ _. TakesWrong p s Old check i ⊎ ((i ≡ j) × Here check)) [
-      | inl o ↦ inl (record { taken = o; wrong = w.wrong })
-      | inr h ↦ inr (h.0, (h.1, subst (λ k. IsWrong p check (s (pos k))) h.0 w.wrong))
+      | inl o ↦ inl (record { taken = o; wrong = subst (IsWrong p check) (sym (kept (compared_item check) i o)) w.wrong })
+      | inr h ↦ inr (h.0, (h.1, subst (λ k. IsWrong p check (t (pos k))) h.0 w.wrong))
     ]),
-    (λ w. elim w as (λ _. TakesWrong p s New check i) [
-      | inl o ↦ record { taken = (same (compared_item check) it i).1 (inl o.taken); wrong = o.wrong }
+    (λ w. elim w as (λ _. TakesWrong p t New check i) [
+      | inl o ↦ record {
+        taken = (same (compared_item check) it i).1 (inl o.taken);
+        wrong = subst (IsWrong p check) (kept (compared_item check) i o.taken) o.wrong;
+      }
       | inr h ↦ record {
         taken = (same (compared_item check) it i).1 (inr (h.0, h.1.0));
-        wrong = subst (λ k. IsWrong p check (s (pos k))) (sym h.0) h.1.1;
+        wrong = subst (λ k. IsWrong p check (t (pos k))) (sym h.0) h.1.1;
       }
     ]),
   )
 
-  row_more : (i : ℕ) → TakesWrongRow p s New i ↔ (TakesWrongRow p s Old i ⊎ ((i ≡ j) × RowWrong p sent (s (pos j))))
+  row_more : (i : ℕ) → TakesWrongRow p t New i ↔ (TakesWrongRow p s Old i ⊎ ((i ≡ j) × RowWrong p sent (t (pos j))))
   row_more i = (
     (λ w. elim ((wrong_more (CheckRow w.row) (row_is_item p w.row w.needed) i).0 w.wrong) as
-        (λ _. TakesWrongRow p s Old i ⊎ ((i ≡ j) × RowWrong p sent (s (pos j)))) [
+        (λ _. TakesWrongRow p s Old i ⊎ ((i ≡ j) × RowWrong p sent (t (pos j)))) [
           | inl o ↦ inl (record { row = w.row; needed = w.needed; wrong = o })
           | inr h ↦ inr (h.0, record { row = w.row; needed = w.needed; sent = h.1.0; wrong = h.1.1 })
         ]),
-    (λ w. elim w as (λ _. TakesWrongRow p s New i) [
-      | inl o ↦ record {
-        row = o.row;
-        needed = o.needed;
-        wrong = (wrong_more (CheckRow o.row) (row_is_item p o.row o.needed) i).1 (inl o.wrong);
-      }
+    (λ w. elim w as (λ _. TakesWrongRow p t New i) [
+      | inl o ↦ record { row = o.row; needed = o.needed; wrong = (wrong_more (CheckRow o.row) (row_is_item p o.row o.needed) i).1 (inl o.wrong) }
       | inr h ↦ let r = h.1 in record {
         row = r.row;
         needed = r.needed;
@@ -119,9 +133,8 @@ module _ (p : Page) (s : Stream) (Old New : Item → ℕ → Type 0) (sent : Ite
     ]),
   )
 
-  pub taken_more : (other : Option ℕ) (old new : FirstSlots) → IsAfter p sent (s (pos j)) j old new → AreFirstTaken p s Old other old →
-      AreFirstTaken p s New other new
-  taken_more other old new n f =
+  pub taken_more : (old new : FirstSlots) → IsAfter p sent (t (pos j)) j old new → AreFirstTaken p s Old old → AreFirstTaken p t New new
+  taken_more old new n f =
       let either = or_is old.has_header (sent TheHead) in
       record {
         has_header = (
@@ -132,50 +145,26 @@ module _ (p : Page) (s : Stream) (Old New : Item → ℕ → Type 0) (sent : Ite
           (λ h. n.has_header ∙ either.1 (elim ((same TheHead tt h.0).0 h.1) as (λ _. (old.has_header ≡ true) ⊎ (sent TheHead ≡ true))
               [ inl o ↦ inl (f.has_header.1 (h.0, o)) | inr k ↦ inr k.1 ])),
         );
-        other_subpage = n.other_subpage ∙ f.other_subpage;
         erased = least_more _ _ _ j (wrong_more EraseBit tt) old.erased new.erased n.erased f.erased;
         head = least_more _ _ _ j (wrong_more CheckHead tt) old.head new.head n.head f.head;
         row = least_more _ _ _ j row_more old.row new.row n.row f.row;
         links = least_more _ _ _ j (wrong_more CheckLinks tt) old.links new.links n.links f.links;
       }
 
--- the same slots are taken, perhaps of another stream
-module _ (p : Page) (s t : Stream) (A B : Item → ℕ → Type 0)
-    (to : (item : Item) → IsItem item → (j : ℕ) → A item j → B item j × (s (pos j) ≡ t (pos j)))
-    (from : (item : Item) → IsItem item → (j : ℕ) → B item j → A item j) where
-  wrong_same : (check : Check) → IsItem (compared_item check) → (j : ℕ) → TakesWrong p s A check j ↔ TakesWrong p t B check j
-  wrong_same check it j = (
-    (λ w. let h = to (compared_item check) it j w.taken in record { taken = h.0; wrong = subst (IsWrong p check) h.1 w.wrong }),
-    (λ w.
-        let a = from (compared_item check) it j w.taken in
-        record { taken = a; wrong = subst (IsWrong p check) (sym (to (compared_item check) it j a).1) w.wrong }),
-  )
-
-  row_same : (j : ℕ) → TakesWrongRow p s A j ↔ TakesWrongRow p t B j
-  row_same j = (
-    (λ w. record { row = w.row; needed = w.needed; wrong = (wrong_same (CheckRow w.row) (row_is_item p w.row w.needed) j).0 w.wrong }),
-    (λ w. record { row = w.row; needed = w.needed; wrong = (wrong_same (CheckRow w.row) (row_is_item p w.row w.needed) j).1 w.wrong }),
-  )
-
-  pub taken_same : (other : Option ℕ) (f : FirstSlots) → AreFirstTaken p s A other f → AreFirstTaken p t B other f
-  taken_same other f a = record {
-    has_header = (
-      (λ e. let h = a.has_header.0 e in (h.0, (to TheHead tt h.0 h.1).0)),
-      (λ h. a.has_header.1 (h.0, from TheHead tt h.0 h.1)),
-    );
-    other_subpage = a.other_subpage;
-    erased = least_same _ _ (wrong_same EraseBit tt) f.erased a.erased;
-    head = least_same _ _ (wrong_same CheckHead tt) f.head a.head;
-    row = least_same _ _ row_same f.row a.row;
-    links = least_same _ _ (wrong_same CheckLinks tt) f.links a.links;
-  }
+-- the same slots are taken
+pub taken_same : (p : Page) (s : Stream) (A B : Item → ℕ → Type 0) → ((item : Item) → IsItem item → (j : ℕ) → A item j ↔ B item j) →
+    (f : FirstSlots) → AreFirstTaken p s A f → AreFirstTaken p s B f
+taken_same p s A B same f = taken_more p s s A B (λ item. false) 0
+    (λ item it j. (
+      (λ b. inl ((same item it j).1 b)),
+      (λ h. elim h as (λ _. B item j) [ inl a ↦ (same item it j).0 a | inr e ↦ let never : false ≡ true = e.1 in cc ]),
+    )) (λ item j a. refl) f f (after_none p (λ item. false) (s (pos 0)) 0 f (λ item. refl))
 
 -- no slot is taken yet
-pub none_taken : (p : Page) (s : Stream) (Taken : Item → ℕ → Type 0) → ((item : Item) (j : ℕ) → Taken item j → ⊥) → (other : Option ℕ) →
-    AreFirstTaken p s Taken other (none_yet other)
-none_taken p s Taken none other = record {
+pub none_taken : (p : Page) (s : Stream) (Taken : Item → ℕ → Type 0) → ((item : Item) (j : ℕ) → Taken item j → ⊥) →
+    AreFirstTaken p s Taken none_yet
+none_taken p s Taken none = record {
   has_header = ((λ t. let e : false ≡ true = t in cc), (λ h. absurd (none TheHead h.0 h.1)));
-  other_subpage = refl;
   erased = λ j w. none TheHead j w.taken;
   head = λ j w. none TheHead j w.taken;
   row = λ j w. none (TheRow w.row) j w.wrong.taken;
@@ -261,10 +250,10 @@ module _ (cycle : List (List ℕ)) (some : 1 ≤ length cycle) (p : Page) (Taken
   )
 
   pub first_slots : (pages : List Page) (other : Option ℕ) → TellsFirst cycle (OtherSubpageAt s pages p) other → (f : FirstSlots) →
-      AreFirstTaken p s Taken other f → AreFirst cycle pages p f
+      AreFirstTaken p s Taken f → AreFirst cycle pages p (record f { other_subpage = other })
   first_slots pages other told f a = record {
     has_header = header_taken f.has_header a.has_header;
-    other_subpage = subst (TellsFirst cycle (OtherSubpageAt s pages p)) (sym a.other_subpage) told;
+    other_subpage = told;
     erased = tells_same cycle (WrongAt s p EraseBit) (ErasedAt s p)
         (λ j. (
           (λ w. record { header = w.sent.owned.1; erases = w.wrong }),

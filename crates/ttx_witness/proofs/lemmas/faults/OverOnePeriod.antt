@@ -11,7 +11,7 @@ use Rattle.ttx_page.specs.declared.selection.Selection.TheVariants.{AnySub}
 use Rattle.ttx_page.specs.declared.item.Item.TheVariants.{Head as TheHead, Row as TheRow, Links as TheLinks}
 use Rattle.ttx_page.specs.Streams.{Stream, repeated, heads, heads_page, heads_matched, ends_serial, IsOwned, IsTransmission, IsLatestHeader}
 use Rattle.ttx_page.specs.Steady.{HasHeader}
-use Rattle.ttx_witness.specs.sent.ItemTransmissions.{PageOwner, owner_after, owner_scan, owner_moved, tainted_by, entry_owner}
+use Rattle.ttx_witness.specs.sent.ItemTransmissions.{PageOwner, owner_after, owner_scan, tainted_by, entry_owner}
 use Rattle.ttx_witness.specs.faults.Comparing.{is_mine, mine_after, sends, compared_item, IsWrong, WrongAt, OtherHeaderAt, heads_other_subpage}
 use Rattle.ttx_witness.specs.declared.faults.comparing.Check.{Check}
 use Rattle.ttx_witness.specs.faults.Faults.{Never}
@@ -29,10 +29,6 @@ slot_is cycle j lt = ap (λ n. slice_index_or cycle n []) (mod-eq_of_lt lt)
 mine_tainted : (b : Bool) (o : Option PageOwner) → is_mine (tainted_by b o) ≡ is_mine o
 mine_tainted b None = refl
 mine_tainted b (Some o) = refl
-
-mine_moved : (d : ℤ) (o : Option PageOwner) → is_mine (owner_moved d o) ≡ is_mine o
-mine_moved d None = refl
-mine_moved d (Some o) = refl
 
 mine_step : (page : Id) (j : ℤ) (packet : Packet) (o : Option PageOwner) → mine_after page packet (is_mine o) ≡ is_mine (owner_after page j packet o)
 mine_step page j packet o = cond_both (heads page.mag packet) _ _ (λ x. mine_after page packet (is_mine o) ≡ is_mine x)

@@ -1,6 +1,6 @@
 -- What is kept after one more slot.
-use Rattle.std.proofs.Common.{◌≡◌, ℕ, suc, ◌<◌, ℤ, pos, Bool, true, false, ◌&&◌, ◌==◌, if◌then◌else◌, List, [], ◌∷◌, ◌++◌}
-use Rattle.std.proofs.Common.{length, Option, Some, None, refl, sym, ap, ◌∙◌, subst, arith}
+use Rattle.std.proofs.Common.{◌≡◌, ◌⊎◌, ℕ, suc, ◌<◌, ℤ, pos, Bool, true, false, ◌&&◌, ◌==◌, if◌then◌else◌, List, [], ◌∷◌, ◌++◌}
+use Rattle.std.proofs.Common.{length, Option, Some, None, refl, sym, ap, ◌∙◌, subst, inl, inr, arith}
 use Rattle.ttx_page.specs.Packets.{packet_of}
 use Rattle.ttx_page.specs.Pages.{Page}
 use Rattle.ttx_page.specs.declared.item.Item.{Item}
@@ -19,7 +19,7 @@ use Rattle.ttx_witness.specs.declared.sent.one_slot.Sent.{Sent}
 use Rattle.ttx_witness.specs.sent.OneSlot.{sent_of, is_sent}
 use Rattle.ttx_witness.specs.passes.SentSlots.{placed_in}
 use Rattle.ttx_witness.specs.passes.PageFacts.{Noted, heads_after, heads_of, AreFacts}
-use Rattle.ttx_witness.proofs.lemmas.faults.FirstSlots.{taken_more, taken_same, sent_more}
+use Rattle.ttx_witness.proofs.lemmas.faults.FirstSlots.{taken_more, sent_more}
 use Rattle.ttx_witness.proofs.lemmas.passes.SentPlaces.{placed_more}
 use Rattle.ttx_witness.proofs.lemmas.sent.ItemPlaces.{placed_item}
 use Rattle.ttx_witness.proofs.lemmas.sent.NumbersSent.{some_of, sends_some}
@@ -89,18 +89,22 @@ module _ (w : Certificate) (is : IsCertificate w) (p : Page) (i : ℕ) (sent : O
       ∙ ap (λ o. sends p.id item (packet_of (repeated more (pos j))) (is_mine o)) (sym (owner_before y z p.id entry j (omega arith)))
 
   first_more : (j : ℕ) → j ≡ length y → (old new : FirstSlots) →
-      AreFirstTaken p (repeated y) (SentBelow p.id (repeated y) entry (length y)) None old → IsAfter p (λ item. is_sent i item sent) z j old new →
-      AreFirstTaken p (repeated more) (SentBelow p.id (repeated more) entry (length more)) None new
+      AreFirstTaken p (repeated y) (SentBelow p.id (repeated y) entry (length y)) old → IsAfter p (λ item. is_sent i item sent) z j old new →
+      AreFirstTaken p (repeated more) (SentBelow p.id (repeated more) entry (length more)) new
   first_more j e old new f n =
-      taken_more p (repeated more) (SentBelow p.id (repeated more) entry (length y)) (SentBelow p.id (repeated more) entry (length more))
+      let sends_more = sent_more p.id (repeated more) entry (length y) (length more) (let l = one_longer y z in omega arith)
+      (λ item. is_sent i item sent) sends_is in
+      taken_more p (repeated y) (repeated more) (SentBelow p.id (repeated y) entry (length y)) (SentBelow p.id (repeated more) entry (length more))
       (λ item. is_sent i item sent) (length y)
-      (sent_more p.id (repeated more) entry (length y) (length more) (let l = one_longer y z in omega arith) (λ item. is_sent i item sent) sends_is)
-      None old new
+      (λ item it k. (
+        (λ h. elim ((sends_more item it k).0 h) as (λ _. SentBelow p.id (repeated y) entry (length y) item k ⊎ ((k ≡ length y) × (is_sent i item sent ≡ true)))
+            [ inl b ↦ inl (b.0, sends_before item k b.0 ∙ b.1) | inr n ↦ inr n ]),
+        (λ h. (sends_more item it k).1 (elim h as
+            (λ _. SentBelow p.id (repeated more) entry (length y) item k ⊎ ((k ≡ length y) × (is_sent i item sent ≡ true)))
+            [ inl b ↦ inl (b.0, sym (sends_before item k b.0) ∙ b.1) | inr n ↦ inr n ])),
+      )) (λ item k t. sym (same_before y z k t.0)) old new
       (subst (λ x. IsAfter p (λ item. is_sent i item sent) x (length y) old new) (sym (here y z))
-      (subst (λ k. IsAfter p (λ item. is_sent i item sent) z k old new) e n))
-      (taken_same p (repeated y) (repeated more) (SentBelow p.id (repeated y) entry (length y)) (SentBelow p.id (repeated more) entry (length y))
-      (λ item it k t. ((t.0, sym (sends_before item k t.0) ∙ t.1), sym (same_before y z k t.0)))
-      (λ item it k t. (t.0, sends_before item k t.0 ∙ t.1)) None old f)
+      (subst (λ k. IsAfter p (λ item. is_sent i item sent) z k old new) e n)) f
 
   pub facts_more : (lim : ℕ) → lim ≡ limit w → (j : ℕ) → j ≡ length y → (old new : Facts) →
       AreFacts w p (repeated y) entry (length y) old → Noted lim p (λ item. is_sent i item sent) z j old new →

@@ -13,7 +13,7 @@ use Rattle.ttx_witness.specs.faults.FirstSlots.{none_yet, SentBelow}
 use Rattle.ttx_witness.proofs.lemmas.faults.FirstSlots.{none_taken}
 
 abbrev pub none_noted : Facts
-none_noted = record { heads = None; first = none_yet None }
+none_noted = record { heads = None; first = none_yet }
 
 pub nothing_noted : (w : Certificate) (p : Page) (s : Stream) (all : List Facts) (count n : ℕ) → all ≡ replicate count none_noted →
     n < count → HoldsAt Facts all n (AreFacts w p s None 0)
@@ -23,5 +23,5 @@ nothing_noted w p s all count n e lt = record {
   here = ap (λ l. slice_get l n) e
       ∙ slice_get-get_or (replicate count none_noted) n none_noted (let l = length-replicate {A = Facts} count none_noted in omega arith)
       ∙ ap Some (get_or-replicate {A = Facts} count n none_noted none_noted lt);
-  is = record { heads = refl; first = none_taken p s (SentBelow p.id s None 0) (λ item j t. let lt = t.0 in absurd (omega arith)) None };
+  is = record { heads = refl; first = none_taken p s (SentBelow p.id s None 0) (λ item j t. let lt = t.0 in absurd (omega arith)) };
 }

@@ -1,5 +1,5 @@
 -- What the facts of a page say about the stream after the whole list.
-use Rattle.std.proofs.Common.{◌≡◌, ℕ, ◌≤◌, List, length, get_or, slice_get, Option, Some, None, refl}
+use Rattle.std.proofs.Common.{◌≡◌, ℕ, ◌≤◌, List, length, get_or, slice_get, Option, Some, None}
 use Rattle.std.proofs.Common.{sym, subst, arith}
 use Rattle.std.proofs.lemmas.List.{length-map}
 use Rattle.std.proofs.lemmas.Option.{slice_get_within}
@@ -43,12 +43,4 @@ module _ (ended : EndedPass) (y : List (List ℕ)) (kept : IsEnded ended y) (n :
       AreFirst y (ended_pages ended) p (record f.first { other_subpage = other })
   facts_first f a =
       first_slots y some p (SentBelow p.id (repeated y) (entry_owner y p.id) (length y)) (λ item it. all_sent y some p.id item)
-      (ended_pages ended) other other_first (record f.first { other_subpage = other })
-      (record {
-        has_header = a.first.has_header;
-        other_subpage = refl;
-        erased = a.first.erased;
-        head = a.first.head;
-        row = a.first.row;
-        links = a.first.links;
-      })
+      (ended_pages ended) other other_first f.first a.first

@@ -44,6 +44,6 @@ pub facts_none : (w : Certificate) (p : Page) (s : Stream) (a b : Option PageOwn
 unfolding sent_scan
 facts_none w p s a b f h = record {
   heads = h.heads;
-  first = taken_same p s s (SentBelow p.id s a 0) (SentBelow p.id s b 0) (λ item it j t. let lt = t.0 in absurd (omega arith))
-      (λ item it j t. let lt = t.0 in absurd (omega arith)) None f.first h.first;
+  first = taken_same p s (SentBelow p.id s a 0) (SentBelow p.id s b 0)
+      (λ item it j. ((λ t. let lt = t.0 in absurd (omega arith)), (λ t. let lt = t.0 in absurd (omega arith)))) f.first h.first;
 }

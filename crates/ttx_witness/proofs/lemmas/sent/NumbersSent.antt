@@ -1,7 +1,7 @@
 -- Which item of a page a packet sends.
 use Rattle.std.proofs.Common.{◌≡◌, ℕ, ℤ, pos, ◌+ℤ◌, int_lt, Bool, true, false, not, ◌&&◌, ◌==◌, if◌then◌else◌, List, [], ◌∷◌, Option, Some, None}
-use Rattle.std.proofs.Common.{refl, sym, ap, ◌∙◌, subst, inl, inr, eqb-true, eq-eqb}
-use Rattle.std.proofs.lemmas.Bool.{cases_Bool, and_parts, both_ways}
+use Rattle.std.proofs.Common.{refl, sym, ap, ◌∙◌, eqb-true}
+use Rattle.std.proofs.lemmas.Bool.{and_parts}
 use Rattle.ttx_header.specs.Ids.{Id}
 use Rattle.ttx_packet.specs.Slots.{Kind, kind_of}
 use Rattle.ttx_page.specs.Packets.{Packet, Empty, Unreadable, Header, Row, Links, Info, Other, packet_of}
@@ -9,10 +9,9 @@ use Rattle.ttx_page.specs.declared.item.Item.{Item}
 use Rattle.ttx_page.specs.declared.item.Item.TheVariants.{Head as TheHead, Row as TheRow, Links as TheLinks}
 use Rattle.ttx_page.specs.Streams.{heads_page, carries}
 use Rattle.ttx_witness.specs.declared.runs.transmissions.Transmission.{Transmission}
-use Rattle.ttx_witness.specs.sent.Collected.{IsItem, item_number}
+use Rattle.ttx_witness.specs.sent.Collected.{item_number}
 use Rattle.ttx_witness.specs.sent.ItemTransmissions.{PageOwner, sent_under, sent_at}
-use Rattle.ttx_witness.specs.faults.Comparing.{is_mine, sends, is_number_of}
-use Rattle.ttx_witness.proofs.lemmas.finding.DueItems.{item_one}
+use Rattle.ttx_witness.specs.faults.Comparing.{is_mine, sends}
 use Rattle.ttx_witness.proofs.lemmas.sent.OneSlot.{IsSilent, silent}
 
 abbrev pub some_of : List Transmission → Bool
@@ -71,21 +70,3 @@ number_told Empty n is page item mine e = absurd is
 number_told Unreadable n is page item mine e = absurd is
 number_told Info n is page item mine e = absurd is
 number_told Other n is page item mine e = absurd is
-
--- the page's item that a slot sends, by its number
-module _ (page : Id) (packet : Packet) (mine : Bool) (number : ℕ) (own : Item) (it : IsItem own) (is : item_number own ≡ number)
-    (told : (item : Item) → sends page item packet mine ≡ true → number ≡ item_number item) where
-  pub number_sent : sends page own packet mine ≡ true → (item : Item) → IsItem item → is_number_of item (Some number) ≡ sends page item packet mine
-  number_sent e item at = elim (cases_Bool (item_number item == number)) as (λ _. (item_number item == number) ≡ sends page item packet mine) [
-    | inl same ↦ same ∙ sym (subst (λ i. sends page i packet mine ≡ true) (item_one own item it at (is ∙ sym (eqb-true _ _ same))) e)
-    | inr other ↦ other ∙ elim (cases_Bool (sends page item packet mine)) as (λ _. false ≡ sends page item packet mine) [
-      | inl sent ↦ absurd (both_ways _ other (eq-eqb _ _ (sym (told item sent))))
-      | inr silent ↦ sym silent
-    ]
-  ]
-
-  pub none_sent : sends page own packet mine ≡ false → (item : Item) → IsItem item → false ≡ sends page item packet mine
-  none_sent e item at = elim (cases_Bool (sends page item packet mine)) as (λ _. false ≡ sends page item packet mine) [
-    | inl sent ↦ absurd (both_ways _ e (subst (λ i. sends page i packet mine ≡ true) (sym (item_one own item it at (is ∙ told item sent))) sent))
-    | inr silent ↦ sym silent
-  ]

@@ -1,4 +1,4 @@
-use Rattle.std.proofs.Common.{◌≡◌, ◌||◌, ◌==◌, refl, sym, ap, ◌∙◌}
+use Rattle.std.proofs.Common.{◌≡◌, ◌||◌, ◌==◌, sym, ap, ◌∙◌}
 use Rattle.ttx_witness.proofs.faults.first_slots.after_slot.Goals as goal
 use Rattle.ttx_witness.proofs.faults.first_slots.after_slot.Goals.{then-first, else-first}
 
@@ -10,7 +10,6 @@ returns c =
         | then-first w ↦ w.result-is ∙ w.if-first.true ∙ sym (ap (λ b. b || (0 == c.args.number)) w.if-first.true)
         | else-first w ↦ w.result-is ∙ sym (ap (λ b. b || (0 == c.args.number)) w.if-first.false)
       ];
-      other_subpage = refl;
       erased = record { holds = c.sends_wrong-erased.result; exact = c.sends_wrong-erased.ensures; first = c.noted.ensures };
       head = record { holds = c.sends_wrong-head.result; exact = c.sends_wrong-head.ensures; first = c.noted-2.ensures };
       row = record { holds = c.is_row_wrong.result; exact = c.is_row_wrong.ensures; first = c.noted-3.ensures };

@@ -1,4 +1,4 @@
-use Rattle.std.proofs.Common.{◌≡◌, ℕ, take, Option}
+use Rattle.std.proofs.Common.{◌≡◌, ℕ, take}
 use Rattle.ttx_cycle.specs.Cycles.{slots_of}
 use Rattle.ttx_page.specs.Streams.{repeated}
 use Rattle.ttx_page.specs.Views.{page_of}
@@ -11,9 +11,8 @@ use Rattle.ttx_witness.proofs.faults.page_faults.after_item.Given as goal
 
 abbrev pub invariant-loop-i : goal.invariant-loop-i
 invariant-loop-i l = record {
-  first : (lines : ℕ) (item : Item) (other : Option ℕ) → IsItem item → item_number item ≡ l.number →
+  first : (lines : ℕ) (item : Item) → IsItem item → item_number item ≡ l.number →
       l.sent ≡ sent_in (slots_of l.cycle) (page_of l.page).id lines item →
-      AreFirstTaken (page_of l.page) (repeated (slots_of l.cycle)) (TakenBelow (slots_of l.cycle) (page_of l.page).id l.number) other l.initial.first →
-      AreFirstTaken (page_of l.page) (repeated (slots_of l.cycle)) (TakenWith (slots_of l.cycle) (page_of l.page) l.number (take l.i l.sent))
-      other l.first;
+      AreFirstTaken (page_of l.page) (repeated (slots_of l.cycle)) (TakenBelow (slots_of l.cycle) (page_of l.page).id l.number) l.initial.first →
+      AreFirstTaken (page_of l.page) (repeated (slots_of l.cycle)) (TakenWith (slots_of l.cycle) (page_of l.page) l.number (take l.i l.sent)) l.first;
 }

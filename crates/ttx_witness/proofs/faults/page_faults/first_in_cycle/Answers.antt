@@ -15,8 +15,8 @@ loop-j-init c =
     let p = page_of c.args.page.now in let x = c.slots-slots.result.now in
     record {
       mine = c.requires ∙ ap (λ y. is_mine (entry_owner y p.id)) (sym c.slots-slots.ensures.slots);
-      first = λ other e. subst (AreFirstTaken p (repeated x) (SentBelow p.id (repeated x) (entry_owner x p.id) 0) other) (sym e)
-          (none_taken p (repeated x) (SentBelow p.id (repeated x) (entry_owner x p.id) 0) (λ item j t. let lt = t.0 in absurd (omega arith)) other);
+      first = subst (AreFirstTaken p (repeated x) (SentBelow p.id (repeated x) (entry_owner x p.id) 0)) (sym c.none_yet-first.ensures)
+          (none_taken p (repeated x) (SentBelow p.id (repeated x) (entry_owner x p.id) 0) (λ item j t. let lt = t.0 in absurd (omega arith)));
     }
 
 pub loop-j-preserved : goal.loop-j-preserved
@@ -32,22 +32,22 @@ loop-j-preserved c =
           ∙ ap (λ y. mine_after p.id (packet_of y) c.loop-j.mine) (sym here)
           ∙ ap (λ m. mine_after p.id (packet_of (s (pos n))) m) c.loop-j.invariant.mine
           ∙ mine_scan p.id s entry n;
-      first = λ other e. taken_more p s (SentBelow p.id s entry n) (SentBelow p.id s entry (n + 1)) (λ item. is_number_of item sent) n
+      first = taken_more p s s (SentBelow p.id s entry n) (SentBelow p.id s entry (n + 1)) (λ item. is_number_of item sent) n
           (sent_more p.id s entry n (n + 1) refl (λ item. is_number_of item sent)
           (λ item it. c.item_sent-sent.ensures item it
           ∙ ap (λ page. sends page item (packet_of slot) c.loop-j.mine) c.id.ensures
           ∙ ap (λ y. sends p.id item (packet_of y) c.loop-j.mine) (sym here)
           ∙ ap (sends p.id item (packet_of (s (pos n)))) c.loop-j.invariant.mine))
-          other c.loop-j.first c.after_sent-first.result
+          (λ item i t. refl) c.loop-j.first c.after_sent-first.result
           (subst (λ y. IsAfter p (λ item. is_number_of item sent) y n c.loop-j.first c.after_sent-first.result) (sym here) c.after_sent-first.ensures)
-          (c.loop-j.invariant.first other e);
+          c.loop-j.invariant.first;
     }
 
 pub returns : goal.returns
 returns c =
     let p = page_of c.args.page.now in let x = c.slots-slots.result.now in
     let n : c.loop-j.j ≡ length x = omega (arith, c.loop-j-test.false, c.loop-j.auto.j-end) in
-    subst (λ y. AreFirstTaken p (repeated y) (SentBelow p.id (repeated y) (entry_owner y p.id) (length y)) c.args.other_subpage c.loop-j.first)
+    subst (λ y. AreFirstTaken p (repeated y) (SentBelow p.id (repeated y) (entry_owner y p.id) (length y)) c.loop-j.first)
     c.slots-slots.ensures.slots
-    (subst (λ k. AreFirstTaken p (repeated x) (SentBelow p.id (repeated x) (entry_owner x p.id) k) c.args.other_subpage c.loop-j.first) n
-    (c.loop-j.invariant.first c.args.other_subpage c.none_yet-first.ensures))
+    (subst (λ k. AreFirstTaken p (repeated x) (SentBelow p.id (repeated x) (entry_owner x p.id) k) c.loop-j.first) n
+    c.loop-j.invariant.first)

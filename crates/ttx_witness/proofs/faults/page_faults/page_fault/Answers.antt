@@ -1,4 +1,4 @@
-use Rattle.std.proofs.Common.{◌∙◌, map, ap, length, subst}
+use Rattle.std.proofs.Common.{◌∙◌, map, ap, length, sym, subst}
 use Rattle.ttx_cycle.specs.Cycles.{slots_of, slots_of-IsCycle}
 use Rattle.ttx_page.specs.Streams.{repeated}
 use Rattle.ttx_page.specs.Views.{page_of}
@@ -17,7 +17,8 @@ returns c = λ p at.
     let here = page_here c.args.pages.now c.args.index c.index-pages-index.result c.requires c.index-pages-index.is in
     let same = placed _ q p here at in
     c.least_fault.ensures cycle pages p (c.id-2.ensures ∙ ap (λ x. x.id) same)
-    (subst (λ x. AreFirst cycle pages x c.first_in_cycle-first.result) same
+    (subst (λ x. AreFirst cycle pages x c.with_other_subpage.result) same
+    (subst (AreFirst cycle pages q) (sym c.with_other_subpage.ensures)
     (first_slots cycle some q (SentBelow q.id (repeated cycle) (entry_owner cycle q.id) (length cycle)) (λ item it. all_sent cycle some q.id item) pages
     c.first_other_subpage-other_subpage.result (c.first_other_subpage-other_subpage.ensures q here) c.first_in_cycle-first.result
-    c.first_in_cycle-first.ensures))
+    c.first_in_cycle-first.ensures)))
