@@ -32,10 +32,9 @@ mod sent;
 mod waiting;
 
 pub use faults::bad_slots::bad_slot;
-pub use faults::collected_faults::fault_of;
 pub use faults::comparing::{Check, is_wrong, same_links};
 pub use faults::other_subpages::OtherSubpages;
-pub use faults::page_faults::page_fault;
+pub use faults::page_faults::{fault_of, page_fault};
 pub use faults::reason::Reason;
 pub use finding::certificates::{Found, find, find_for};
 pub use laws::{cycle_laws, fault_laws, judging_laws, late_laws, sure_items, wait_laws};

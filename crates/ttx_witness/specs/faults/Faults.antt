@@ -2,12 +2,12 @@
 --
 --   IsFirstAt, Never, TellsFirst    the first slot of the period where a property holds; it holds at no slot
 --   IsPageFault             the first of reasons 2 to 7, which concern only a page and a cycle
---   AreFirst, earlier       the first slot for each reason; the earlier of two slots
+--   AreFirst                the first slot for each reason
 --   IsFirstItem, IsFirstStart       the least item, and its least start, for which a property holds
 --   IsWitnessFault          the first of reasons 8 to 10 and 12, which concern named starts
 --   IsFault                 the first of all these
 --   SteadyHasNoFault        a page has no fault if and only if it is steady
-use Rattle.std.specs.Prelude.{◌≡◌, ◌⊎◌, ◌↔◌, ℕ, ◌<◌, ℤ, pos, true, if◌then◌else◌, nat_le, List, length, Option, Some, None, IsTrue}
+use Rattle.std.specs.Prelude.{◌≡◌, ◌⊎◌, ◌↔◌, ℕ, ◌<◌, ℤ, pos, true, List, length, Option, Some, None, IsTrue}
 use Rattle.ttx_page.specs.Pages.{Page, needed}
 use Rattle.ttx_page.specs.declared.item.Item.{Item}
 use Rattle.ttx_page.specs.Streams.{repeated}
@@ -73,12 +73,6 @@ pub record AreFirst (cycle : List (List ℕ)) (pages : List Page) (p : Page) (fi
   pub head : TellsFirst cycle (HeadDiffersAt (repeated cycle) p) first.head
   pub row : TellsFirst cycle (RowDiffersAt (repeated cycle) p) first.row
   pub links : TellsFirst cycle (LinksDifferAt (repeated cycle) p) first.links
-
--- the earlier of two slots; None stands for no slot
-abbrev pub earlier : Option ℕ → Option ℕ → Option ℕ
-earlier None b = b
-earlier (Some a) None = Some a
-earlier (Some a) (Some b) = Some (if nat_le a b then a else b)
 
 -- P holds for the item, and for no item before it
 pub record IsFirstItem (P : Item → Type 0) (item : Item) : Type 0 where

@@ -4,7 +4,9 @@ ghost use Rattle.std.specs.Prelude.{◌≡◌, ◌<◌, ◌≢◌, ◌-◌, IfOk
 ghost use Rattle.std.specs.List.{AllPairs};
 ghost use Rattle.ttx_page.specs.Views.{page_of};
 ghost use Rattle.ttx_certificate.specs.Certificates.{certificate_of};
+ghost use Rattle.ttx_witness.specs.faults.FirstSlots.{none_yet};
 
+use crate::faults::first_slots::none_yet;
 use crate::faults::other_subpages::none_told;
 use crate::faults::subcodes::subcodes_of;
 use crate::passes::other_headers::OtherHeaders;
@@ -18,14 +20,11 @@ use ttx_page::Page;
 
 // Empty facts for `count` pages.
 fn no_facts(alloc: Global, count: usize) -> Result<Vec<Facts>, NoMemory>
-    ensures { IfOk result (λ all. all.items ≡ replicate count (record { heads = None; erased = None; head = None; row = None; links = None })) }
+    ensures { IfOk result (λ all. all.items ≡ replicate count (record { heads = None; first = none_yet })) }
 {
     let none = Facts {
         heads: None,
-        erased: None,
-        head: None,
-        row: None,
-        links: None,
+        first: none_yet(),
     };
     match vec![in alloc; none; count] {
         Ok(all) => Ok(all),

@@ -1,12 +1,12 @@
 //! The results for the pages once the second pass has ended.
 
-ghost use Rattle.std.specs.Prelude.{◌≡◌, Option, None, is_some, get_or, slice_get};
+ghost use Rattle.std.specs.Prelude.{◌≡◌, Option, None, get_or, slice_get};
 ghost use Rattle.ttx_certificate.specs.Certificates.{certificate_of};
 ghost use Rattle.ttx_page.specs.Pages as definitions;
 ghost use Rattle.ttx_page.specs.Views.{page_of};
 ghost use Rattle.ttx_witness.specs.faults.OtherSubpages as tables;
 
-use crate::faults::first_slots::{FirstSlots, least_fault};
+use crate::faults::first_slots::{least_fault, with_other_subpage};
 use crate::faults::reason::Reason;
 use crate::faults::subcodes::place;
 use crate::passes::other_headers::OtherHeaders;
@@ -46,27 +46,6 @@ fn facts_at(all: &[Facts], index: usize) -> Option<Facts>
     all.get(index).copied()
 }
 
-// The first slot for each reason.
-fn first_slots(facts: Facts, other_subpage: Option<u32>) -> FirstSlots
-    ensures { result ≡ record {
-      has_header = is_some facts.heads;
-      other_subpage = other_subpage;
-      erased = facts.erased;
-      head = facts.head;
-      row = facts.row;
-      links = facts.links;
-    } }
-{
-    FirstSlots {
-        has_header: facts.heads.is_some(),
-        other_subpage,
-        erased: facts.erased,
-        head: facts.head,
-        row: facts.row,
-        links: facts.links,
-    }
-}
-
 impl<'a> EndedPass<'a> {
     ghost use Rattle.std.specs.Prelude.{◌≡◌, ◌<◌, ℕ, List, Some, length, slice_get};
     ghost use Rattle.ttx_page.specs.Pages as definitions;
@@ -90,7 +69,8 @@ impl<'a> EndedPass<'a> {
             return None;
         };
         let page = self.pages[index].id();
-        let first = first_slots(facts, first_other_header_of(&self.others, page));
+        let other_subpage = first_other_header_of(&self.others, page);
+        let first = with_other_subpage(facts.first, other_subpage);
         least_fault(page, first)
     }
 

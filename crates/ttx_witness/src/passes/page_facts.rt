@@ -1,20 +1,18 @@
-//! Facts about single slots of a page, noted slot by slot.
+//! The headers and the first slots of each page, noted slot by slot.
 
-ghost use Rattle.std.specs.Prelude.{◌≡◌, ◌↔◌, ◌<◌, ℕ, IsTrue, length, map, slice_get, Some, ◌==◌, true};
+ghost use Rattle.std.specs.Prelude.{◌≡◌, ℕ, length, map, slice_get, Some, ◌==◌};
 ghost use Rattle.ttx_page.specs.Pages as definitions;
 ghost use Rattle.ttx_page.specs.Views.{page_of};
 ghost use Rattle.ttx_witness.specs.sent.Collected.{item_number};
-ghost use Rattle.ttx_witness.specs.faults.Comparing.{IsWrong};
 ghost use Rattle.ttx_witness.specs.declared.passes.page_facts.Facts.{Facts as FactsValue};
 ghost use Rattle.ttx_witness.specs.sent.OneSlot.{is_sent};
 ghost use Rattle.ttx_witness.specs.passes.ItemProgress.{HoldsAt};
-ghost use Rattle.ttx_witness.specs.passes.PageFacts.{IsNoted, RowWrong, Noted, next_head, heads_after, late_of};
+ghost use Rattle.ttx_witness.specs.passes.PageFacts.{Noted, next_head, heads_after, late_of};
 
-use crate::faults::comparing::{Check, is_wrong};
-use crate::faults::other_subpages::first_of;
+use crate::faults::first_slots::{FirstSlots, after_slot};
 use crate::passes::numbered_slot::NumberedSlot;
 use crate::sent::one_slot::Sent;
-use ttx_page::{Item, Page, RowNumber, needed};
+use ttx_page::Page;
 
 /// The first and the last header of a page, and the first header that the next one followed too late.
 #[derive(Clone, Copy)]
@@ -28,10 +26,7 @@ pub struct Heads {
 #[derive(Clone, Copy)]
 pub struct Facts {
     pub heads: Option<Heads>,
-    pub erased: Option<u32>,
-    pub head: Option<u32>,
-    pub row: Option<u32>,
-    pub links: Option<u32>,
+    pub first: FirstSlots,
 }
 
 // The headers of a page after one more header, in slot `j`.
@@ -69,40 +64,13 @@ fn heads_after(heads: Option<Heads>, j: i32, limit: u32, sent: bool) -> Option<H
     }
 }
 
-// The first slot that differs from the page, after one more slot. `sent` says whether this slot sends the item.
-fn noted(
-    first: Option<u32>,
-    page: &Page,
-    check: &Check,
-    slot: &NumberedSlot,
-    sent: bool,
-) -> Option<u32>
-    ensures { IsNoted ((sent ≡ true) × IsWrong (page_of page.now) check.now slot.now.bytes.now) slot.now.at first result }
-{
-    first_of(first, sent && is_wrong(page, check, slot.bytes), slot.at)
-}
-
-// Whether the slot differs from the page in the row with this number, and a viewer sees the row.
-fn is_row_wrong(page: &Page, number: u8, slot: &[u8; 42]) -> bool
-    ensures { IsTrue result ↔ RowWrong (page_of page.now) (λ item. item_number item == number) slot.now }
-{
-    match RowNumber::new(number) {
-        Some(row) => is_wrong(page, &Check::Row(row), slot) && needed(page, Item::Row(row)),
-        None => false,
-    }
-}
-
 // The facts after a slot that sends item `number` of the page.
 fn facts_after(facts: Facts, page: &Page, number: u8, slot: &NumberedSlot, limit: u32) -> Facts
     ensures { Noted limit (page_of page.now) (λ item. item_number item == number) slot.now.bytes.now slot.now.at facts result }
 {
-    let (is_head, is_links) = (0 == number, 25 == number);
     Facts {
-        heads: heads_after(facts.heads, slot.at as i32, limit, is_head),
-        erased: noted(facts.erased, page, &Check::EraseBit, slot, is_head),
-        head: noted(facts.head, page, &Check::Head, slot, is_head),
-        row: first_of(facts.row, is_row_wrong(page, number, slot.bytes), slot.at),
-        links: noted(facts.links, page, &Check::Links, slot, is_links),
+        heads: heads_after(facts.heads, slot.at as i32, limit, 0 == number),
+        first: after_slot(facts.first, page, number, slot.bytes, slot.at),
     }
 }
 

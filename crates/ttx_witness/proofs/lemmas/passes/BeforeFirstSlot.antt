@@ -9,9 +9,11 @@ use Rattle.ttx_witness.specs.sent.ItemTransmissions.{sent_scan}
 use Rattle.ttx_witness.specs.declared.passes.page_facts.Facts.{Facts}
 use Rattle.ttx_witness.specs.passes.ItemProgress.{HoldsAt}
 use Rattle.ttx_witness.specs.passes.PageFacts.{AreFacts, heads_of}
+use Rattle.ttx_witness.specs.faults.FirstSlots.{none_yet, SentBelow}
+use Rattle.ttx_witness.proofs.lemmas.faults.FirstSlots.{none_taken}
 
 abbrev pub none_noted : Facts
-none_noted = record { heads = None; erased = None; head = None; row = None; links = None }
+none_noted = record { heads = None; first = none_yet }
 
 pub nothing_noted : (w : Certificate) (p : Page) (s : Stream) (all : List Facts) (count n : ℕ) → all ≡ replicate count none_noted →
     n < count → HoldsAt Facts all n (AreFacts w p s None 0)
@@ -21,11 +23,5 @@ nothing_noted w p s all count n e lt = record {
   here = ap (λ l. slice_get l n) e
       ∙ slice_get-get_or (replicate count none_noted) n none_noted (let l = length-replicate {A = Facts} count none_noted in omega arith)
       ∙ ap Some (get_or-replicate {A = Facts} count n none_noted none_noted lt);
-  is = record {
-    heads = refl;
-    erased = λ j lt. absurd (omega arith);
-    head = λ j lt. absurd (omega arith);
-    row = λ j lt. absurd (omega arith);
-    links = λ j lt. absurd (omega arith);
-  };
+  is = record { heads = refl; first = none_taken p s (SentBelow p.id s None 0) (λ item j t. let lt = t.0 in absurd (omega arith)) };
 }

@@ -1,5 +1,5 @@
 -- The facts of pages; one slot changes those of at most one page.
-use Rattle.std.proofs.Common.{◌≡◌, ◌⊎◌, ℕ, ◌<◌, ◌≤◌, pos, Bool, true, false, ◌&&◌, ◌==◌, List, length, map, set, slice_get, Option, Some, None, refl}
+use Rattle.std.proofs.Common.{◌≡◌, ◌⊎◌, ℕ, ◌<◌, ◌≤◌, pos, Bool, true, false, ◌&&◌, ◌==◌, List, length, map, set, slice_get, Some, refl}
 use Rattle.std.proofs.Common.{sym, ap, ◌∙◌, subst, inl, inr, arith, eqb-true, eq-eqb}
 use Rattle.std.proofs.lemmas.Bool.{cases_Bool, both_ways}
 use Rattle.std.proofs.lemmas.List.{length-map}
@@ -8,33 +8,21 @@ use Rattle.ttx_page.specs.Pages.{Page}
 use Rattle.ttx_page.specs.Views.{page_of}
 use Rattle.ttx_page.specs.declared.page.Page.{Page as PageValue}
 use Rattle.ttx_page.specs.declared.item.Item.{Item}
-use Rattle.ttx_page.specs.declared.item.Item.TheVariants.{Head as TheHead, Links as TheLinks}
+use Rattle.ttx_page.specs.declared.item.Item.TheVariants.{Head as TheHead}
 use Rattle.ttx_witness.specs.sent.Collected.{item_number}
-use Rattle.ttx_witness.specs.faults.OtherSubpages.{first_of}
-use Rattle.ttx_witness.proofs.lemmas.faults.FirstSlots.{placed}
+use Rattle.ttx_witness.proofs.lemmas.faults.FirstSlots.{after_none, placed}
 use Rattle.ttx_witness.specs.declared.passes.page_facts.Facts.{Facts}
 use Rattle.ttx_witness.specs.declared.sent.one_slot.Sent.{Sent}
 use Rattle.ttx_witness.specs.sent.OneSlot.{is_sent}
 use Rattle.ttx_witness.specs.passes.ItemProgress.{HoldsAt}
-use Rattle.ttx_witness.specs.passes.PageFacts.{IsNoted, Noted, heads_after}
+use Rattle.ttx_witness.specs.passes.PageFacts.{Noted, heads_after}
 use Rattle.ttx_witness.proofs.lemmas.ChangedPlaces.{set_here, set_other}
 
-none_of : (o : Option ℕ) (j : ℕ) → o ≡ first_of o false j
-none_of None j = refl
-none_of (Some i) j = refl
-
-not_noted : (P : Type 0) (j : ℕ) (o : Option ℕ) → (P → ⊥) → IsNoted P j o o
-not_noted P j o not = record { holds = false; exact = ((λ e. cc), (λ p. absurd (not p))); first = none_of o j }
-
--- a slot that sends nothing of the page
-pub noted_none : (limit : ℕ) (p : Page) (sends : Item → Bool) (slot : List ℕ) (j : ℕ) (x : Facts) →
+noted_none : (limit : ℕ) (p : Page) (sends : Item → Bool) (slot : List ℕ) (j : ℕ) (x : Facts) →
     ((item : Item) → sends item ≡ false) → Noted limit p sends slot j x x
 noted_none limit p sends slot j x none = record {
   heads = ap (λ b. heads_after limit (pos j) b x.heads) (sym (none TheHead));
-  erased = not_noted _ j x.erased (λ h. both_ways _ (none TheHead) h.0);
-  head = not_noted _ j x.head (λ h. both_ways _ (none TheHead) h.0);
-  row = not_noted _ j x.row (λ h. both_ways _ (none _) h.sent);
-  links = not_noted _ j x.links (λ h. both_ways _ (none TheLinks) h.0);
+  first = after_none p sends slot j x.first none;
 }
 
 and_true : (a b : Bool) → b ≡ true → a ≡ (a && b)

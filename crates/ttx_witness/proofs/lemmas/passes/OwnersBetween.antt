@@ -12,8 +12,9 @@ use Rattle.ttx_page.specs.Pages.{Page}
 use Rattle.ttx_witness.specs.Coverage.{Certificate}
 use Rattle.ttx_witness.specs.sent.ItemTransmissions.{sent_scan}
 use Rattle.ttx_witness.specs.declared.passes.page_facts.Facts.{Facts}
-use Rattle.ttx_witness.specs.passes.PageFacts.{FirstBelow, AreFacts}
-use Rattle.ttx_witness.proofs.lemmas.passes.GrowingLists.{below_same}
+use Rattle.ttx_witness.specs.faults.FirstSlots.{SentBelow}
+use Rattle.ttx_witness.specs.passes.PageFacts.{AreFacts}
+use Rattle.ttx_witness.proofs.lemmas.faults.FirstSlots.{taken_same}
 use Rattle.ttx_witness.specs.passes.EarlierOwners.{IsMoved}
 
 abbrev pub FromZero : Option PageOwner → Type 0
@@ -39,16 +40,10 @@ moved_seen i by (Some o) r few m low =
     let e : o.slot -ℤ pos by ≡ o.slot +ℤ (pos 0 -ℤ pos by) = omega (arith, ints) in
     ap (seen_by i) (m low few) ∙ ap (λ z. seen_by i (Some (record { slot = z; page = o.page; tainted = o.tainted }))) e
 
--- no slot yet
-none_yet : (P Q : ℕ → Type 0) (o : Option ℕ) → FirstBelow P 0 o → FirstBelow Q 0 o
-none_yet P Q = below_same P Q 0 (λ j lt. absurd (omega arith))
-
 pub facts_none : (w : Certificate) (p : Page) (s : Stream) (a b : Option PageOwner) (f : Facts) → AreFacts w p s a 0 f → AreFacts w p s b 0 f
 unfolding sent_scan
 facts_none w p s a b f h = record {
   heads = h.heads;
-  erased = none_yet _ _ f.erased h.erased;
-  head = none_yet _ _ f.head h.head;
-  row = none_yet _ _ f.row h.row;
-  links = none_yet _ _ f.links h.links;
+  first = taken_same p s (SentBelow p.id s a 0) (SentBelow p.id s b 0)
+      (λ item it j. ((λ t. let lt = t.0 in absurd (omega arith)), (λ t. let lt = t.0 in absurd (omega arith)))) f.first h.first;
 }

@@ -1,5 +1,5 @@
 -- If a second pass ends with the owners with which it began, these are the list's own.
-use Rattle.std.proofs.Common.{◌≡◌, ◌⊎◌, ◌↔◌, ℕ, zero, suc, ◌<◌, ◌≤◌, ℤ, pos, ◌+ℤ◌, ◌-ℤ◌, Bool, true, false, if◌then◌else◌, List, length, slice_get}
+use Rattle.std.proofs.Common.{◌≡◌, ◌⊎◌, ℕ, zero, suc, ◌≤◌, ℤ, pos, ◌+ℤ◌, ◌-ℤ◌, Bool, true, false, if◌then◌else◌, List, length, slice_get}
 use Rattle.std.proofs.Common.{Option, Some, None, refl, sym, ap, ◌∙◌, subst, inl, inr, arith}
 use Rattle.std.proofs.lemmas.Int.{ints}
 use Rattle.ttx_header.specs.Ids.{Id}
@@ -7,18 +7,10 @@ use Rattle.ttx_page.specs.Packets.{packet_of}
 use Rattle.ttx_page.specs.Pages.{Page}
 use Rattle.ttx_page.specs.Streams.{Stream, repeated, heads, heads_page, ends_serial}
 use Rattle.ttx_witness.specs.sent.ItemTransmissions.{PageOwner, tainted_by, owner_scan, owner_moved, sent_scan, entry_owner}
-use Rattle.ttx_witness.specs.faults.Comparing.{is_mine, compared_item, sends, IsWrong, WrongAt}
-use Rattle.ttx_witness.specs.declared.faults.comparing.Check.{Check}
-use Rattle.ttx_witness.specs.faults.Faults.{TellsFirst}
-use Rattle.ttx_witness.proofs.lemmas.faults.OverOnePeriod.{slot_is, wrong_is, never_wrong, nowhere, sent_down, sent_up}
-use Rattle.ttx_witness.proofs.lemmas.sent.CycleTransmissions.{period_of}
 use Rattle.ttx_witness.proofs.lemmas.sent.StreamOwners.{SameSlot, same_refl, same_tainted}
-use Rattle.ttx_witness.specs.declared.faults.comparing.Check.TheVariants.{Row as CheckRow}
-use Rattle.ttx_page.specs.declared.item.Item.TheVariants.{Row as TheRow}
-use Rattle.ttx_page.specs.Steady.{RowDiffersAt, RowIsRight}
 use Rattle.ttx_witness.specs.declared.passes.page_facts.Facts.{Facts}
 use Rattle.ttx_witness.specs.passes.ItemProgress.{HoldsAt}
-use Rattle.ttx_witness.specs.passes.PageFacts.{FirstBelow, SendsWrong, SendsWrongRow, AreFacts}
+use Rattle.ttx_witness.specs.passes.PageFacts.{AreFacts}
 use Rattle.ttx_witness.specs.passes.Passing.{AreKept, pass_pages, certificate}
 use Rattle.ttx_witness.specs.declared.passes.passing.Pass.{Pass}
 
@@ -86,79 +78,3 @@ kept_same pass a b y same k = record {
       (same i p at) (k.facts i p at);
   others = k.others;
 }
-
--- the first wrong slot of a period is that of the stream
-pub wrong_first : (y : List (List ℕ)) → 1 ≤ length y → (p : Page) (check : Check) (o : Option ℕ) →
-    FirstBelow (SendsWrong p (repeated y) (entry_owner y p.id) check) (length y) o → TellsFirst y (WrongAt (repeated y) p check) o
-wrong_first y some p check o f = go o f
-  where
-    is : (j : ℕ) → j < length y → SendsWrong p (repeated y) (entry_owner y p.id) check j ↔ WrongAt (repeated y) p check (pos j)
-    is j lt =
-        let at = slot_is y j lt in
-        let w = wrong_is y some p check j lt (is_mine (owner_scan p.id (repeated y) (entry_owner y p.id) j)) refl in (
-          (λ a. w.0 (
-            ap (λ x. sends p.id (compared_item check) (packet_of x)
-                (is_mine (owner_scan p.id (repeated y) (entry_owner y p.id) j))) (sym at) ∙ a.sent,
-            subst (IsWrong p check) at a.wrong,
-          )),
-          (λ a. let b = w.1 a in record {
-            sent = ap
-                (λ x. sends p.id (compared_item check) (packet_of x)
-                (is_mine (owner_scan p.id (repeated y) (entry_owner y p.id) j))) at ∙ b.0;
-            wrong = subst (IsWrong p check) (sym at) b.1;
-          }),
-        )
-
-    go : (o : Option ℕ) → FirstBelow (SendsWrong p (repeated y) (entry_owner y p.id) check) (length y) o →
-        TellsFirst y (WrongAt (repeated y) p check) o
-    go None g = never_wrong y some p check (λ j lt v. g j lt ((is j lt).1 v))
-    go (Some j) g = record { within = g.0; here = (is j g.0).0 g.1; none_before = λ i lt v. let l = g.0 in g.2 i lt ((is i (omega arith)).1 v) }
-
-back : (y : List (List ℕ)) (i : ℤ) → repeated y (i -ℤ pos (length y)) ≡ repeated y i
-back y i = let e : (i -ℤ pos (length y)) +ℤ pos (length y) ≡ i = omega (arith, ints) in sym (period_of y (i -ℤ pos (length y))) ∙ ap (repeated y) e
-
--- the first wrong row
-pub row_first : (y : List (List ℕ)) → 1 ≤ length y → (p : Page) (o : Option ℕ) →
-    FirstBelow (SendsWrongRow p (repeated y) (entry_owner y p.id)) (length y) o → TellsFirst y (RowDiffersAt (repeated y) p) o
-row_first y some p o f = go o f
-  where
-    to : (j : ℕ) → j < length y → SendsWrongRow p (repeated y) (entry_owner y p.id) j → RowDiffersAt (repeated y) p (pos j)
-    to j lt a =
-        let at = slot_is y j lt in
-        let w = (wrong_is y some p (CheckRow a.row) j lt (is_mine (owner_scan p.id (repeated y) (entry_owner y p.id) j)) refl).0 (
-          ap (λ x. sends p.id (TheRow a.row) (packet_of x) (is_mine (owner_scan p.id (repeated y) (entry_owner y p.id) j))) (sym at)
-              ∙ a.wrong.sent,
-          subst (IsWrong p (CheckRow a.row)) at a.wrong.wrong,
-        ) in
-        record { row = a.row; needed = a.needed; sent = w.sent; differs = w.wrong }
-
-    from : (j : ℕ) → j < length y → RowDiffersAt (repeated y) p (pos j) → SendsWrongRow p (repeated y) (entry_owner y p.id) j
-    from j lt d =
-        let at = slot_is y j lt in
-        let b = (wrong_is y some p (CheckRow d.row) j lt (is_mine (owner_scan p.id (repeated y) (entry_owner y p.id) j)) refl).1
-        (record { sent = d.sent; wrong = d.differs }) in
-        record {
-          row = d.row;
-          needed = d.needed;
-          wrong = record {
-            sent = ap (λ x. sends p.id (TheRow d.row) (packet_of x) (is_mine (owner_scan p.id (repeated y) (entry_owner y p.id) j))) at ∙ b.0;
-            wrong = subst (IsWrong p (CheckRow d.row)) (sym at) b.1;
-          };
-        }
-
-    go : (o : Option ℕ) → FirstBelow (SendsWrongRow p (repeated y) (entry_owner y p.id)) (length y) o → TellsFirst y (RowDiffersAt (repeated y) p) o
-    go None g = nowhere y some (RowDiffersAt (repeated y) p)
-        (λ i d. record {
-          row = d.row;
-          needed = d.needed;
-          sent = sent_down y some p.id (TheRow d.row) i d.sent;
-          differs = subst (λ x. RowIsRight p d.row (packet_of x) → ⊥) (period_of y i) d.differs;
-        })
-        (λ i d. record {
-          row = d.row;
-          needed = d.needed;
-          sent = sent_up y some p.id (TheRow d.row) i d.sent;
-          differs = subst (λ x. RowIsRight p d.row (packet_of x) → ⊥) (back y i) d.differs;
-        })
-        (λ j lt d. g j lt (from j lt d))
-    go (Some j) g = record { within = g.0; here = to j g.0 g.1; none_before = λ i lt d. let l = g.0 in g.2 i lt (from i (omega arith) d) }

@@ -7,8 +7,5 @@ pub returns : goal.returns
 returns c = record {
   heads = c.heads_after.ensures ∙ ap (λ j. heads_after c.args.limit j (0 == c.args.number) c.args.facts.heads)
       (to_z_pos w32 c.args.slot.now.at (let small = c.args.slot.now.small in omega arith));
-  erased = c.noted.ensures;
-  head = c.noted-2.ensures;
-  row = record { holds = c.is_row_wrong.result; exact = c.is_row_wrong.ensures; first = c.first_of.ensures };
-  links = c.noted-3.ensures;
+  first = c.after_slot.ensures;
 }

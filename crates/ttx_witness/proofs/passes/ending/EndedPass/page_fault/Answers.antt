@@ -1,4 +1,4 @@
-use Rattle.std.proofs.Common.{rules, ◌≡◌, None, is_some, slice_get, get_or, sym, ap, ◌∙◌, subst}
+use Rattle.std.proofs.Common.{rules, ◌≡◌, None, slice_get, get_or, sym, ap, ◌∙◌, subst}
 use Rattle.ttx_page.specs.Views.{page_of}
 use Rattle.ttx_witness.specs.faults.OtherSubpages.{place}
 use Rattle.ttx_witness.specs.faults.Faults.{AreFirst}
@@ -32,22 +32,7 @@ returns c = λ y p kept at.
     (ids_are c.pages_keep_their_rules.ensures self.pages.now c.args.index p.id at_id) h.value h.is in
     c.least_fault.ensures y (ended_pages self) p id
     (subst (AreFirst y (ended_pages self) p)
-    (sym (c.first_slots-first.ensures
-    ∙ ap (λ f. record {
-      has_header = is_some f.heads;
-      other_subpage = c.first_other_header_of.result;
-      erased = f.erased;
-      head = f.head;
-      row = f.row;
-      links = f.links;
-    }) fact
-    ∙ ap (λ o. record {
-      has_header = is_some h.value.heads;
-      other_subpage = o;
-      erased = h.value.erased;
-      head = h.value.head;
-      row = h.value.row;
-      links = h.value.links;
-    })
-    (c.first_other_header_of.ensures ∙ ap (λ i. get_or self.others.first.items (place i.mag i.page) None) id)))
+    (sym (c.with_other_subpage-first.ensures ∙ ap (λ f. record f.first { other_subpage = c.first_other_header_of-other_subpage.result }) fact
+    ∙ ap (λ o. record h.value.first { other_subpage = o })
+    (c.first_other_header_of-other_subpage.ensures ∙ ap (λ i. get_or self.others.first.items (place i.mag i.page) None) id)))
     first)
