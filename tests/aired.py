@@ -268,9 +268,9 @@ def short_texts():
     return [f'lines = 2\nserial = true\n[[page]]\nnumber = "100"\nhead = "{head}"\n'.encode() for head in ("one", "two", "two", "three", "one")]
 
 
-def ordered(pages):
-    """A text with pages in this order, each full."""
-    return ("lines = 2\nserial = true\n" + "".join(f'[[page]]\nnumber = "{page:03X}"\n' for page in pages)).encode()
+def ordered(pages, key=""):
+    """A text with pages in this order, each with this key."""
+    return ("lines = 2\nserial = true\n" + "".join(f'[[page]]\nnumber = "{page:03X}"\n{key}' for page in pages)).encode()
 
 
 def late_texts():
@@ -290,7 +290,7 @@ def last_turns():
     """The first page gives way to another one, with which the cycle has to begin. It is the 64th turn, and then the next one, which is not tried."""
     first, order = 0x100, list(range(0x101, 0x164))
     changed = [[*order[at:], 0x164, *order[:at]] for at in (35, 34)]
-    return [ordered(pages) for pages in ([first, *order], changed[0], [first, *order], changed[1])]
+    return [ordered(pages, "inhibit = true\n") for pages in ([first, *order], changed[0], [first, *order], changed[1])]
 
 
 def author_texts():
@@ -500,7 +500,7 @@ def wrong_air(program, folder, texts, within, late, periods, clock=MIDNIGHT):
 def wrong_turns(program, folder, texts, late, periods):
     """The same of texts with which each item comes in time, but not through a change with the cycle that is planned."""
     first = Service(program, folder, texts[0], late)
-    within = first.certified() + -(-first.gap() // first.lines) + 4
+    within = first.certified() + -(-first.gap() // first.lines) + 1
     return wrong_air(program, folder, texts, within, late, periods)
 
 
