@@ -3,7 +3,8 @@
 some bytes. Then the program must end with `fault: memory`, `fault: read` or `fault: write`, and have written only the first bytes of its
 usual output. After a failed allocation it may also do what it does otherwise, but at least one allocation of each command must end in
 `fault: memory`. A command without any allocation, read or write fails the test, except where the table below says so. `air` goes on where a
-call fails after the first packet, unless it is a write of packets, and notes it in its log.
+call fails after the first packet, unless it is a write of packets, and notes it in its log. `monitor --all` and `--every` write while they read, so
+of their output the first lines are there.
 
 usage: refused_calls.py PROGRAM
 
@@ -70,6 +71,8 @@ COMMANDS = [
     ("check check-several.toml --json", True),
     ("monitor small.t42 small.toml small.cert small.t42 --json", True),
     ("monitor small.t42 small.toml small.cert small.t42 --rows --json", True),
+    ("monitor small.t42 small.toml small.cert feed.t42 --all --every 1", False),
+    ("monitor small.t42 small.toml small.cert feed.t42 --all --every 1 --json", True),
     ("certify small.t42 small.toml small.cert --late --numbers --json", True),
     ("certify small.t42 small.toml small.cert --twice --json", True),
     ("wait small.t42 small.toml --items --numbers --json", True),
@@ -129,6 +132,10 @@ def make_inputs(folder):
     shutil.copy(TOP / "examples/broadcast.toml", folder)
     head = "lines 2\nrepeat 1\ndeadline"
     (folder / "small.cert").write_text(f"ttx certificate 1\n{head} 5\n100/0000 links 3\n")
+    # three periods, with two wrong bits in one byte of the second one
+    feed = bytearray((folder / "small.t42").read_bytes() * 3)
+    feed[len(feed) // 3 + 10] ^= 0xC0
+    (folder / "feed.t42").write_bytes(feed)
     (folder / "early.cert").write_text(f"ttx certificate 1\n{head} 4\n100/0000 links 3\n")
     (folder / "early.counter").write_text(counter(1, 8, 4, six=" 1 1 16255" + " 0" * 15))
     (folder / "clearing.cert").write_text(f"ttx certificate 2\nclass clearing\n{head} 3\n")
@@ -258,6 +265,50 @@ class AirRuns(Runs):
         return writes
 
 
+class ReportRuns(Runs):
+    """Runs of `monitor` that write while they read: what went out before a call fails stays."""
+
+    def is_cut(self, ample, answer, words):
+        """Whether the first lines went out, and standard error has these words."""
+        lines = answer[1]
+        return answer[0] == 3 and answer[2] == words and ample[1].startswith(lines) and (not lines or lines.endswith(b"\n"))
+
+    def refuse_growths(self):
+        ample, (growths, _, _) = self.counted()
+        told = set()
+        for n in range(1, growths + 2):
+            answer = self.run(growth=n)
+            is_told = self.is_cut(ample, answer, b"fault: memory\n")
+            if is_told:
+                told.add((n, answer[1]))
+            self.expect(answer == ample or (is_told and n <= growths), answer, f"growth {n} of {growths}")
+        cuts = {lines for _, lines in told}
+        self.expect(len(cuts) > 2 and b"" in cuts, ample, f"growths that end in fault: memory after {len(cuts)} beginnings")
+        return growths, len(told)
+
+    def fail_reads(self, ample, piece):
+        answer, (_, reads, _) = self.counted(piece=piece)
+        self.expect(answer == ample, answer, f"pieces of {piece}")
+        cuts = set()
+        for n in range(1, reads + 1):
+            answer = self.run(piece=piece, read=n)
+            self.expect(self.is_cut(ample, answer, b"fault: read\n"), answer, f"pieces of {piece}, read {n} of {reads}")
+            cuts.add(answer[1])
+        self.expect(len(cuts) > 2 and b"" in cuts, ample, f"reads that fail after {len(cuts)} beginnings")
+        return reads
+
+    def fail_writes(self, ample, piece):
+        _, (_, _, writes) = self.counted(piece=piece)
+        sent = set()
+        for n in range(1, writes + 1):
+            answer = self.run(piece=piece, write=n)
+            is_right = (answer[0], answer[2]) == (3, b"fault: write\n") and ample[1].startswith(answer[1]) and answer[1] != ample[1]
+            self.expect(is_right, answer, f"pieces of {piece}, write {n} of {writes}")
+            sent.add(answer[1])
+        self.expect(len(sent) == writes > 0, ample, f"{writes} writes fail after {len(sent)} beginnings")
+        return writes
+
+
 def compiler():
     """The clang beside the `rt` that is called (which may be called through a script in another folder), or a C compiler of the machine."""
     rt = shutil.which("rt")
@@ -276,7 +327,8 @@ def build(folder):
 
 def refuse_all(program, folder, words, growths_alone):
     """All runs of one command in a folder of its own: how many allocations, `fault: memory` answers, reads and writes there were."""
-    runs = (AirRuns if words.startswith("air ") else Runs)(program, folder, words)
+    is_report = words.startswith("monitor ") and "--every" in words
+    runs = (AirRuns if words.startswith("air ") else ReportRuns if is_report else Runs)(program, folder, words)
     growths, told = runs.refuse_growths()
     ample = runs.run()
     pieces = () if growths_alone else PIECES
