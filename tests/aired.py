@@ -293,6 +293,17 @@ def last_turns():
     return [ordered(pages, "inhibit = true\n") for pages in ([first, *order], changed[0], [first, *order], changed[1])]
 
 
+def parallel_texts():
+    """Two magazines side by side. The cycle can begin where the first page of the one is sent, but for late receivers the other one is amid a page
+    there, so that nothing could follow."""
+    def text(order):
+        pages = [f'number = "{page:03X}"' for page in order] + [f'number = "{page:03X}"\noften = 2' for page in range(0x201, 0x205)]
+        return "\n[[page]]\n".join(["lines = 2\nserial = false", *pages, 'number = "200"\noften = 2\ninhibit = true']).encode()
+
+    order = list(range(0x100, 0x108))
+    return [text(pages) for pages in (order, order[1:] + order[:1], order)]
+
+
 def author_texts():
     """Authors' texts with a mistake in a row, in a number and in a promise, and half-written, between good ones; a service text is one of them."""
     good = ('author = 1\nlines = 2\nserial = true\n# The menu of the day.\n[[page]]\nnumber = "100"\noption = "french"\n'
@@ -497,10 +508,10 @@ def wrong_air(program, folder, texts, within, late, periods, clock=MIDNIGHT):
     return said or wrong_replay(program, folder, texts, got["out"])
 
 
-def wrong_turns(program, folder, texts, late, periods):
-    """The same of texts with which each item comes in time, but not through a change with the cycle that is planned."""
+def wrong_turns(program, folder, texts, late, periods, spare=1):
+    """The same of texts with which each item comes in time, but not through a change with the cycle that is planned; with so many fields to spare."""
     first = Service(program, folder, texts[0], late)
-    within = first.certified() + -(-first.gap() // first.lines) + 1
+    within = first.certified() + -(-first.gap() // first.lines) + spare
     return wrong_air(program, folder, texts, within, late, periods)
 
 
@@ -575,6 +586,8 @@ def main():
             lambda: wrong_turns(program, folder, moved_texts(), True, 14),
             lambda: wrong_turns(program, folder, moved_texts(), False, 14),
             lambda: wrong_turns(program, folder, last_turns(), False, 11),
+            lambda: wrong_turns(program, folder, parallel_texts(), True, 14, 12),
+            lambda: wrong_turns(program, folder, parallel_texts(), False, 14, 12),
             lambda: wrong_air(program, folder, short_texts(), 100, True, 100),
             lambda: wrong_air(program, folder, author_texts(), 100, True, 100),
             lambda: wrong_file(program, folder, [base, None, None, steps(base)[2], base], 250),
