@@ -72,10 +72,6 @@ Reads-word b n l e = record {
       (leb-true _ _ (agree_below_at (λ n. leb (distance (hamming_word n) (hamming_word n)) 1) (λ _. true) 16 n near_itself l));
 }
 
--- a byte reads as at most one number
-pub Reads-one : (b m n : ℕ) → b < 256 → Reads b m → Reads b n → m ≡ n
-Reads-one b m n l r s = sym (number_from_Reads b m l r) ∙ number_from_Reads b n l s
-
 ---- readings and code words
 
 pub reading-from_Reads : (b n : ℕ) → b < 256 → Reads b n → reading b ≡ Some n
