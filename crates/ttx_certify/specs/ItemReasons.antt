@@ -14,7 +14,7 @@ use Rattle.ttx_page.specs.Pages.{Page, needed}
 use Rattle.ttx_page.specs.Views.{page_of}
 use Rattle.ttx_page.specs.declared.class.Class.TheVariants.{Clearing}
 use Rattle.ttx_page.specs.declared.item.Item.{Item}
-use Rattle.ttx_witness.specs.Certificates.{certificate_of}
+use Rattle.ttx_certificate.specs.Certificates.{certificate_of}
 use Rattle.ttx_witness.specs.sent.Collected.{item_number, IsItem}
 use Rattle.ttx_witness.specs.Coverage.{Certificate, IsCovered, IsLeftOut}
 use Rattle.ttx_witness.specs.laws.JudgingLaws.{IsHeaderAnswer}

@@ -4,7 +4,7 @@ ghost use Rattle.std.specs.Prelude.{◌≡◌, ◌≢◌, IfOk, [], map};
 ghost use Rattle.std.specs.List.{AllPairs};
 ghost use Rattle.ttx_cycle.specs.Cycles.{slots_of};
 ghost use Rattle.ttx_page.specs.Views.{page_of, ids_of};
-ghost use Rattle.ttx_witness.specs.Certificates.{certificate_of};
+ghost use Rattle.ttx_certificate.specs.Certificates.{certificate_of};
 ghost use Rattle.ttx_certify.specs.AllReasons.{AreReasons};
 ghost use Rattle.ttx_certify.specs.Verdicts.{IsVerdict, Means};
 ghost use Rattle.ttx_certify.specs.Walking.{Starts, Stands, walk_pages, walk_certificate, second_pages, second_certificate};

@@ -24,7 +24,7 @@ impl<'a> Walk<'a> {
     ghost use Rattle.std.specs.Prelude.{◌≡◌, ◌≢◌, ◌++◌, ◌∷◌, [], ℕ, List, IfOk, IfErr, MatchResult, length, map};
     ghost use Rattle.std.specs.List.{AllPairs};
     ghost use Rattle.ttx_page.specs.Views.{page_of};
-    ghost use Rattle.ttx_witness.specs.Certificates.{certificate_of};
+    ghost use Rattle.ttx_certificate.specs.Certificates.{certificate_of};
     ghost use Rattle.ttx_page.specs.Views.{ids_of};
     ghost use Rattle.ttx_certify.specs.Walking.{Starts, Stands, walk_pages, walk_certificate, second_pages, second_certificate};
 

@@ -12,7 +12,7 @@ ghost use Rattle.ttx_page.specs.declared.class.Class.TheVariants.{Any};
 ghost use Rattle.ttx_page.specs.declared.item.Item.TheVariants as items;
 ghost use Rattle.ttx_receiver.specs.Starving.{wrong_memory};
 ghost use Rattle.ttx_witness.specs.sent.AllSent.{AreAllSent};
-ghost use Rattle.ttx_witness.specs.Certificates.{certificate_of};
+ghost use Rattle.ttx_certificate.specs.Certificates.{certificate_of};
 ghost use Rattle.ttx_witness.specs.sent.Collected.{IsItem};
 ghost use Rattle.ttx_witness.specs.Coverage as coverage;
 ghost use Rattle.ttx_witness.specs.finding.Finding.{CanBeAccepted, IsSentUnchanged};

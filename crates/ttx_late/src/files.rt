@@ -1,7 +1,7 @@
 //! The verdict on files for receivers that show pages late.
 
 ghost use Rattle.std.specs.Prelude.{◌≡◌, IfOk, string_bytes};
-ghost use Rattle.ttx_witness.specs.Certificates.{fields_of};
+ghost use Rattle.ttx_certificate.specs.Certificates.{fields_of};
 ghost use Rattle.ttx_late.specs.CertifyingLate.{IsJudgedLate};
 ghost use Rattle.ttx_late.specs.LateVerdictLines.{late_verdict_line};
 

@@ -1,7 +1,7 @@
 //! The lines of verdicts for receivers that may show pages late.
 
 ghost use Rattle.std.specs.Prelude.{◌≡◌, ◌∷◌, ◌++◌, [], OnOk, IfOk, string_bytes};
-ghost use Rattle.ttx_witness.specs.Certificates.{fields_of};
+ghost use Rattle.ttx_certificate.specs.Certificates.{fields_of};
 ghost use Rattle.ttx_certify.specs.VerdictLines.{page_words, slot_words};
 ghost use Rattle.ttx_late.specs.LateVerdictLines.{late_text, late_verdict_line};
 

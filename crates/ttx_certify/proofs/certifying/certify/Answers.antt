@@ -1,7 +1,7 @@
 use Rattle.std.proofs.Common.{map, ◌∙◌, subst, arith}
 use Rattle.ttx_cycle.specs.Cycles.{slots_of, slots_of-IsCycle}
 use Rattle.ttx_page.specs.Views.{page_of}
-use Rattle.ttx_witness.specs.Certificates.{certificate_of}
+use Rattle.ttx_certificate.specs.Certificates.{certificate_of}
 use Rattle.ttx_certify.specs.Verdicts.{IsVerdict}
 use Rattle.ttx_certify.proofs.PageByPage.{are_pages}
 use Rattle.ttx_certify.specs.Walking.{second_pages, second_certificate}

@@ -1,7 +1,7 @@
 use Rattle.std.proofs.Common.{refl, map, ◌∙◌, subst, arith}
 use Rattle.std.proofs.lemmas.Result.{IfOk-weaker}
 use Rattle.ttx_cycle.specs.Cycles.{slots_of, slots_of-IsCycle}
-use Rattle.ttx_witness.specs.Certificates.{certificate_of}
+use Rattle.ttx_certificate.specs.Certificates.{certificate_of}
 use Rattle.ttx_certify.specs.AllReasons.{AreReasons}
 use Rattle.ttx_certify.specs.Verdicts.{IsVerdict, Means}
 use Rattle.ttx_certify.specs.Walking.{second_pages, second_certificate}

@@ -5,7 +5,7 @@ use Rattle.ttx_page.specs.Memories.{IsMemory, memory_of_page}
 use Rattle.ttx_page.specs.Pages.{IsPage}
 use Rattle.ttx_page.specs.Streams.{repeated}
 use Rattle.ttx_cycle.specs.Cycles.{slots_of, slots_of-IsCycle}
-use Rattle.ttx_witness.specs.Certificates.{certificate_of}
+use Rattle.ttx_certificate.specs.Certificates.{certificate_of}
 use Rattle.ttx_witness.specs.Coverage.{limit}
 use Rattle.ttx_counter.specs.Counters.{CounterRun, counter_run_of, selection_for}
 use Rattle.ttx_counter.specs.Sources.{TellsWrong, IsWrongAfter}

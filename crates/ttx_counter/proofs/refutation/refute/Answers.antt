@@ -5,7 +5,7 @@ use Rattle.ttx_witness.specs.sent.AllSent.{AreAllSent}
 use Rattle.ttx_witness.specs.Coverage.{IsSureStart}
 use Rattle.ttx_cycle.specs.Cycles.{slots_of, slots_of-IsCycle}
 use Rattle.ttx_page.specs.Views.{page_of}
-use Rattle.ttx_witness.specs.Certificates.{certificate_of}
+use Rattle.ttx_certificate.specs.Certificates.{certificate_of}
 use Rattle.ttx_counter.specs.Counters.{counter_run_of}
 use Rattle.ttx_counter.proofs.SearchAnswers.{are_pages, counter_told, both_told, first_of_pages, first_of_plain, exact_told}
 use Rattle.ttx_counter.proofs.refutation.refute.Goals as goal

@@ -1,7 +1,7 @@
 use Rattle.std.proofs.Common.{◌<◌, ℕ, Bool, map}
 use Rattle.ttx_cycle.specs.Cycles.{slots_of}
 use Rattle.ttx_page.specs.Views.{page_of}
-use Rattle.ttx_witness.specs.Certificates.{certificate_of}
+use Rattle.ttx_certificate.specs.Certificates.{certificate_of}
 use Rattle.ttx_witness.specs.Coverage.{limit}
 use Rattle.ttx_counter.specs.Sources.{IsPlainlyRight}
 use Rattle.ttx_counter.proofs.refutation.refute_all_plainly.Given as goal

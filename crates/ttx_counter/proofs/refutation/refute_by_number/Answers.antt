@@ -3,7 +3,7 @@ use Rattle.ttx_cycle.specs.Cycles.{slots_of}
 use Rattle.ttx_page.specs.Steady.{OtherSubpageAt}
 use Rattle.ttx_page.specs.Streams.{repeated}
 use Rattle.ttx_page.specs.Views.{page_of}
-use Rattle.ttx_witness.specs.Certificates.{certificate_of}
+use Rattle.ttx_certificate.specs.Certificates.{certificate_of}
 use Rattle.ttx_witness.specs.Coverage.{limit}
 use Rattle.ttx_witness.specs.faults.Faults.{TellsFirst}
 use Rattle.ttx_counter.proofs.ByNumber.{right_by_number}

@@ -3,7 +3,7 @@ use Rattle.std.specs.Prelude.{is_some}
 use Rattle.ttx_page.specs.Pages.{Page}
 use Rattle.ttx_cycle.specs.Cycles.{slots_of, slots_of-IsCycle}
 use Rattle.ttx_page.specs.Views.{page_of}
-use Rattle.ttx_witness.specs.Certificates.{certificate_of}
+use Rattle.ttx_certificate.specs.Certificates.{certificate_of}
 use Rattle.ttx_counter.specs.Counters.{counter_run_of}
 use Rattle.ttx_counter.specs.Refutations.{TellsCovered}
 use Rattle.ttx_counter.proofs.SearchAnswers.{ok_map, absent_of, absent_none, well_unless, steady_if, page_told}

@@ -3,7 +3,7 @@ use Rattle.std.proofs.lemmas.List.{length-map}
 use Rattle.std.proofs.lemmas.Option.{slice_get_within}
 use Rattle.ttx_cycle.specs.Cycles.{slots_of}
 use Rattle.ttx_page.specs.Views.{page_of}
-use Rattle.ttx_witness.specs.Certificates.{certificate_of}
+use Rattle.ttx_certificate.specs.Certificates.{certificate_of}
 use Rattle.ttx_counter.specs.Counters.{counter_run_of}
 use Rattle.ttx_counter.proofs.SearchAnswers.{first_told, sent_more}
 use Rattle.ttx_counter.proofs.refutation.refute_pages.Goals as goal

@@ -2,7 +2,7 @@ use Rattle.std.proofs.Common.{◌≡◌, ◌<◌, ℕ, Some, map, slice_get}
 use Rattle.ttx_cycle.specs.Cycles.{slots_of}
 use Rattle.ttx_page.specs.Pages.{Page}
 use Rattle.ttx_page.specs.Views.{page_of}
-use Rattle.ttx_witness.specs.Certificates.{certificate_of}
+use Rattle.ttx_certificate.specs.Certificates.{certificate_of}
 use Rattle.ttx_counter.specs.Refutations.{IsSentWell}
 use Rattle.ttx_counter.proofs.refutation.refute_pages.Given as goal
 

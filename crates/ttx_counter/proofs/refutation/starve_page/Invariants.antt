@@ -3,7 +3,7 @@ use Rattle.ttx_cycle.specs.Cycles.{slots_of}
 use Rattle.ttx_page.specs.Pages.{Page, needed}
 use Rattle.ttx_page.specs.declared.item.Item.{Item}
 use Rattle.ttx_page.specs.Views.{page_of}
-use Rattle.ttx_witness.specs.Certificates.{certificate_of}
+use Rattle.ttx_certificate.specs.Certificates.{certificate_of}
 use Rattle.ttx_witness.specs.sent.Collected.{IsItem, item_number}
 use Rattle.ttx_witness.specs.Coverage.{IsCovered}
 use Rattle.ttx_counter.specs.Starving.{fullest}

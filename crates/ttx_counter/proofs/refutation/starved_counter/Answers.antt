@@ -1,7 +1,7 @@
 use Rattle.std.proofs.Common.{◌≡◌, map}
 use Rattle.ttx_cycle.specs.Cycles.{slots_of, slots_of-IsCycle}
 use Rattle.ttx_page.specs.Views.{page_of}
-use Rattle.ttx_witness.specs.Certificates.{certificate_of}
+use Rattle.ttx_certificate.specs.Certificates.{certificate_of}
 use Rattle.ttx_counter.specs.Counters.{counter_run_of}
 use Rattle.ttx_counter.specs.StarvingRuns.{starving_run}
 use Rattle.ttx_counter.proofs.SearchAnswers.{ok_map, starved_of}
