@@ -99,13 +99,3 @@ module _ (receivers : Receivers) (next : Candidate) (verdict : LateChange) (star
   )
 
 -- ---- the newsroom's answer
-
-pub asked_it : {N : Type 0} (gives : N → Edition → ℕ → News → N → Type 0) (old : N) (current : Edition) (field : ℕ) (answer : Option News) (news : News)
-    (new : N) → answer ≡ Some news → gives old current field news new → Asked gives old current field answer new
-asked_it gives old current field answer news new e given = subst (λ a. Asked gives old current field a new) (sym e) given
-
-pub is_held : (o : OnAir) → at_of o ≡ 0 → (IsTime o → ⊥) → held_of o < limit (current_of o).certificate
-is_held o between not_time = elim (cases_lt (held_of o) (limit (current_of o).certificate)) as (λ _. held_of o < limit (current_of o).certificate) [
-  | inl lt ↦ lt
-  | inr ge ↦ absurd (not_time (record { held = ge; between = between }))
-]

@@ -206,14 +206,6 @@ air_whole {times = times} {first = first} {begin = begin} {o = o} served s field
   s.bytes,
 )
 
--- the first edition was refused
-pub air_refused : {N : Type 0} (gives : N → Edition → ℕ → News → N → Type 0) (airtime : Airtime) (first : Candidate) (before after : Scene N)
-    (fault : AirFault) → IsRefused airtime.receivers first.edition fault → after ≡ before → Airs gives airtime first before after (Err fault)
-air_refused gives airtime first before after (Start refusal) is same = (is, same)
-air_refused gives airtime first before after (NeverShown page slot) is same = (is, same)
-air_refused gives airtime first before after (TooFar gap) is same = (is, same)
-air_refused gives airtime first before after (Write fault) is same = absurd is
-
 pub so_far_at : {N : Type 0} {gives : N → Edition → ℕ → News → N → Type 0} {receivers : Receivers} {times : Times} {lines started : ℕ} {first : Candidate} {gone : N}
     {begin : Written} {o : OnAir} {news : N} {log : Written} {before after : Option (List ℕ)} {n m : ℕ} → n ≡ m →
     AirSoFar gives receivers times lines started first gone begin o news log before after n →

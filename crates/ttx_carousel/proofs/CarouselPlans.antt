@@ -173,14 +173,6 @@ with_stays v promises (stay ∷ stays) old new some has raised (Err (Short numbe
 with_stays v promises (stay ∷ stays) old new some has raised (Err (Missed missed)) h = (has, raised, h)
 with_stays v promises (stay ∷ stays) old new some has raised (Err NoMemory) h = tt
 
-pub without_stays : (v : Viewers) (promises stays : List PromiseFields) (old new : ServiceFields) → stays ≡ [] → (cycle : Cycle) →
-    Answers v promises old new (Ok cycle) → AnswersStays v promises stays old new (Ok cycle)
-without_stays v promises [] old new none cycle h = h
-without_stays v promises (stay ∷ stays) old new none cycle h = absurd (cons_apart stay stays none)
-  where
-    cons_apart : (x : PromiseFields) (xs : List PromiseFields) → x ∷ xs ≡ [] → ⊥
-    cons_apart x xs e = cc
-
 pub some_view : (stays : List PromiseValue) → false ≡ eqb (length stays) 0 → map promise_view stays ≢ []
 some_view [] some e = let f : false ≡ true = some in cc
 some_view (stay ∷ stays) some e = cc

@@ -13,7 +13,7 @@ use Rattle.ttx_page.specs.declared.item.Item.TheVariants.{Head as TheHead, Row a
 pub use Rattle.ttx_page.proofs.Decisions.{Decided, both, same_bool, same_option, same_list}
 use Rattle.ttx_page.specs.Steady.{IsLikeHead, HeadIsRight, RowIsRight, LinksAreRight}
 use Rattle.ttx_witness.specs.sent.Collected.{item_number, IsItem}
-use Rattle.ttx_witness.specs.passes.PageFacts.{FirstBelow}
+use Rattle.ttx_certify.specs.walks.PageFacts.{FirstBelow}
 
 pub refuted : {P : Type 0} → Decided P → Decided (P → ⊥)
 refuted (inl p) = inr (λ n. n p)

@@ -1,3 +1,4 @@
+mod walk_lemmas
 pub mod LaterReceptions
 pub mod AcceptedIsSeen
 mod OneItem

@@ -4,7 +4,7 @@ use Rattle.std.specs.List.{All}
 use Rattle.std.proofs.Math.Seq.{take-append_seam, drop-append_seam}
 use Rattle.ttx_packet.specs.Slots.{IsSlot}
 use Rattle.ttx_cycle.specs.Files.{file_of}
-use Rattle.ttx_witness.specs.Entries.{certificate_at}
+use Rattle.ttx_certificate.specs.Entries.{certificate_at}
 use Rattle.ttx_source.specs.Services.{pages_of}
 use Rattle.ttx_certify.specs.CertifyingPasses.{PassesAreFiles}
 use Rattle.ttx_certify.specs.Walking.{IsWalkVerdict}

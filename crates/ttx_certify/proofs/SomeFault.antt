@@ -16,7 +16,7 @@ use Rattle.ttx_cycle.specs.Files.{IsCycle}
 use Rattle.ttx_witness.specs.runs.Transmissions.{slot_of}
 use Rattle.ttx_witness.specs.declared.runs.transmissions.Transmission.{Transmission}
 use Rattle.ttx_witness.specs.runs.Repeating.{Lists, IsSentAt, Tells}
-use Rattle.ttx_witness.specs.passes.PageFacts.{FirstBelow}
+use Rattle.ttx_certify.specs.walks.PageFacts.{FirstBelow}
 use Rattle.ttx_witness.specs.faults.Faults.{TellsFirst, IsPageFault}
 use Rattle.ttx_witness.specs.laws.JudgingLaws.{TransmissionsAreListed}
 use Rattle.ttx_witness.specs.sent.ItemTransmissions.{sent_in}

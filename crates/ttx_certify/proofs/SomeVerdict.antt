@@ -13,7 +13,7 @@ use Rattle.ttx_cycle.specs.Files.{IsCycle}
 use Rattle.ttx_witness.specs.runs.Confirming.{late_after}
 use Rattle.ttx_witness.specs.Coverage.{Certificate, IsCertificate, limit}
 use Rattle.ttx_witness.specs.laws.CycleLaws.{progress_of}
-use Rattle.ttx_witness.specs.passes.PageFacts.{FirstBelow}
+use Rattle.ttx_certify.specs.walks.PageFacts.{FirstBelow}
 use Rattle.ttx_witness.specs.faults.Faults.{IsFault, IsPageFault, IsWitnessFault}
 use Rattle.ttx_witness.specs.laws.JudgingLaws.{HeadersAreJudged, late_header}
 use Rattle.ttx_witness.specs.faults.Reasons.{BadSlotAt}

@@ -1,5 +1,5 @@
 -- A page has a first reason exactly if some reason is true of it.
-use Rattle.std.proofs.Common.{◌≡◌, ◌⊎◌, ◌↔◌, ℕ, ◌≤◌, pos, true, List, length, Option, Some, None, refl, inl, inr, arith}
+use Rattle.std.proofs.Common.{◌≡◌, ◌⊎◌, ℕ, ◌≤◌, pos, true, List, length, Some, None, refl, inl, inr, arith}
 use Rattle.ttx_page.specs.Pages.{Page, needed}
 use Rattle.ttx_page.specs.Streams.{repeated}
 use Rattle.ttx_page.specs.Steady.{HasHeader, HasNoHeader, Steady}
@@ -9,7 +9,7 @@ use Rattle.ttx_witness.specs.faults.Faults.{IsFault, IsPageFault, IsWitnessFault
 use Rattle.ttx_witness.specs.declared.faults.reason.Reason.{Reason}
 use Rattle.ttx_witness.specs.declared.faults.reason.Reason.TheVariants.{BadSlot, NoHeader, OtherSubpage, Erased, HeadDiffers, RowDiffers, LinksDiffer}
 use Rattle.ttx_witness.specs.declared.faults.reason.Reason.TheVariants.{NoWitness, WitnessBad, Late, Unsteady, LateBlank}
-use Rattle.ttx_certify.specs.AllReasons.{IsTrueReason, HasReason, ReasonsAreTrue}
+use Rattle.ttx_certify.specs.AllReasons.{IsTrueReason, ReasonsAreTrue}
 use Rattle.ttx_certify.proofs.Accepting.{CoverLaws, no_witness_not, bad_not, late_not, late_blank_not}
 
 module _ (cycle : List (List ℕ)) (pages : List Page) (p : Page) (w : Certificate) where

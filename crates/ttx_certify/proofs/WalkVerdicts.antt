@@ -1,12 +1,12 @@
 -- The verdict of a walk over two lists, and what it guarantees.
-use Rattle.std.proofs.Common.{◌≡◌, ℕ, ◌≤◌, List, length, inl, inr, refl, ap, arith}
+use Rattle.std.proofs.Common.{◌≡◌, ℕ, ◌≤◌, List, length, inl, inr, refl, ap, subst, arith}
 use Rattle.ttx_cycle.specs.Files.{IsCycle}
 use Rattle.ttx_page.specs.Pages.{Page}
 use Rattle.ttx_witness.specs.Coverage.{Certificate, IsCertificate}
 use Rattle.ttx_witness.specs.declared.faults.reason.Reason.TheVariants as R
 use Rattle.ttx_certify.specs.Laws.{AcceptedIsSeen, ArePages}
 use Rattle.ttx_certify.specs.Verdicts.{IsVerdict, Means}
-use Rattle.ttx_witness.specs.passes.Passing.{IsBorneOut}
+use Rattle.ttx_certify.specs.walks.Passing.{IsBorneOut}
 use Rattle.ttx_certify.specs.Walking.{IsWalkVerdict}
 use Rattle.ttx_certify.specs.declared.verdict.Verdict.{Verdict}
 use Rattle.ttx_certify.specs.declared.verdict.Verdict.TheVariants.{Yes, No}
@@ -27,6 +27,10 @@ as_walked x y pages w borne (No (R.WitnessBad page item start)) h = (borne, h)
 as_walked x y pages w borne (No (R.Late page item start)) h = (borne, h)
 as_walked x y pages w borne (No (R.LateBlank page item header)) h = (borne, h)
 as_walked x y pages w borne (No R.Unsteady) h = absurd (elim h.0.1.fault as (λ _. ⊥) [ inl a ↦ a | inr b ↦ b.1 ])
+
+-- what holds for pages and a certificate holds for equal ones
+pub for_same : {ps qs : List Page} {v w : Certificate} → ps ≡ qs → v ≡ w → (P : List Page → Certificate → Type 0) → P ps v → P qs w
+for_same {ps} {qs} {v} {w} e f P h = subst (P qs) f (subst (λ rs. P rs v) e h)
 
 -- a walk over one list twice has the verdict on that list
 pub walked_same : (y : List (List ℕ)) → 1 ≤ length y → (pages : List Page) (w : Certificate) (v : Verdict) →

@@ -8,7 +8,7 @@ use Rattle.std.specs.Prelude.{◌≡◌, ℕ, Bool, List, ◌∷◌, [], ◌++�
 use Rattle.std.specs.List.{count_by}
 use Rattle.std.specs.Fmt.{decimal}
 use Rattle.ttx_source.specs.Services.{ServiceFields, pages_of}
-use Rattle.ttx_witness.specs.Entries.{CertificateFields, certificate_at}
+use Rattle.ttx_certificate.specs.Entries.{CertificateFields, certificate_at}
 use Rattle.ttx_witness.specs.declared.faults.reason.Reason.{Reason}
 use Rattle.ttx_certify.specs.AllReasons.{AreReasons}
 use Rattle.ttx_certify.specs.Verdicts.{IsVerdict, Means}

@@ -8,7 +8,7 @@
 --   CertifiesFiles          what has been written, for each answer
 use Rattle.std.specs.Prelude.{◌≡◌, ℕ, List, length, Option, Result}
 use Rattle.ttx_source.specs.Services.{ServiceFields, pages_of}
-use Rattle.ttx_witness.specs.Entries.{CertificateFields, certificate_at}
+use Rattle.ttx_certificate.specs.Entries.{CertificateFields, certificate_at}
 use Rattle.ttx_files.specs.Judging as files
 use Rattle.ttx_files.specs.declared.faults.FilesFault.{FilesFault}
 use Rattle.ttx_certify.specs.Verdicts.{IsVerdict, Means}

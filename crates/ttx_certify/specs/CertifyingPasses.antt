@@ -15,7 +15,7 @@ use Rattle.ttx_cycle.specs.declared.faults.CycleFault.{CycleFault}
 use Rattle.ttx_page.specs.Pages.{Page}
 use Rattle.ttx_source.specs.Services.{ServiceFields, pages_of}
 use Rattle.ttx_witness.specs.Coverage.{Certificate}
-use Rattle.ttx_witness.specs.Entries.{CertificateFields, certificate_at}
+use Rattle.ttx_certificate.specs.Entries.{CertificateFields, certificate_at}
 use Rattle.ttx_files.specs.Answers.{WritesAnswer}
 use Rattle.ttx_files.specs.Inputs.{IsRefusedText}
 use Rattle.ttx_files.specs.declared.faults.FilesFault.{FilesFault}

@@ -14,13 +14,13 @@ use Rattle.ttx_page.specs.Pages.{Page, needed}
 use Rattle.ttx_page.specs.Views.{page_of}
 use Rattle.ttx_page.specs.declared.class.Class.TheVariants.{Clearing}
 use Rattle.ttx_page.specs.declared.item.Item.{Item}
-use Rattle.ttx_witness.specs.Certificates.{certificate_of}
+use Rattle.ttx_certificate.specs.Certificates.{certificate_of}
 use Rattle.ttx_witness.specs.sent.Collected.{item_number, IsItem}
 use Rattle.ttx_witness.specs.Coverage.{Certificate, IsCovered, IsLeftOut}
 use Rattle.ttx_witness.specs.laws.JudgingLaws.{IsHeaderAnswer}
-use Rattle.ttx_witness.specs.passes.Passing.{IsEnded, ended_pages, ended_certificate}
+use Rattle.ttx_certify.specs.walks.Passing.{IsEnded, ended_pages, ended_certificate}
 use Rattle.ttx_witness.specs.faults.Reasons.{HasNoWitness, WitnessBadAt, LateAt, LateBlankAt}
-use Rattle.ttx_witness.specs.declared.passes.ending.EndedPass.{EndedPass}
+use Rattle.ttx_certify.specs.declared.walks.ending.EndedWalk.{EndedWalk}
 use Rattle.ttx_witness.specs.declared.faults.reason.Reason.{Reason}
 use Rattle.ttx_witness.specs.declared.faults.reason.Reason.TheVariants.{BadSlot, NoHeader, OtherSubpage, Erased, HeadDiffers, RowDiffers, LinksDiffer}
 use Rattle.ttx_witness.specs.declared.faults.reason.Reason.TheVariants.{NoWitness, WitnessBad, Late, Unsteady, LateBlank}
@@ -108,7 +108,7 @@ pub record IsReady (judged : JudgedPage) (y : List (List ℕ)) : Type 0 where
       IsHeaderAnswer y (judged_page judged) (judged_certificate judged) judged.late_header
 
 -- the page is the one at the index of a pass that has ended
-pub record IsReadyAt (ended : EndedPass) (index : ℕ) (judged : JudgedPage) (y : List (List ℕ)) : Type 0 where
+pub record IsReadyAt (ended : EndedWalk) (index : ℕ) (judged : JudgedPage) (y : List (List ℕ)) : Type 0 where
   pub ended_is : IsEnded ended y
   pub page : slice_get (ended_pages ended) index ≡ Some (judged_page judged)
   pub certificate : judged_certificate judged ≡ ended_certificate ended

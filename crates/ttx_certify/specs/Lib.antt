@@ -2,6 +2,7 @@ pub mod Seen
 pub mod ItemReasons
 pub mod Verdicts
 pub mod AllReasons
+pub mod walks
 pub mod Walking
 pub mod VerdictLines
 pub mod AllLines

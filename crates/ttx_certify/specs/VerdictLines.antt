@@ -10,8 +10,8 @@ use Rattle.ttx_page.specs.declared.item.Item.{Item}
 use Rattle.ttx_page.specs.declared.class.Class.{Class}
 use Rattle.ttx_page.specs.declared.class.Class.TheVariants.{Any, Clearing}
 use Rattle.ttx_digits.specs.PageIds.{id_text}
-use Rattle.ttx_witness.specs.CertificateTexts.{item_text}
-use Rattle.ttx_witness.specs.Entries.{CertificateFields}
+use Rattle.ttx_certificate.specs.CertificateTexts.{item_text}
+use Rattle.ttx_certificate.specs.Entries.{CertificateFields}
 use Rattle.ttx_witness.specs.declared.faults.reason.Reason.{Reason}
 use Rattle.ttx_witness.specs.declared.faults.reason.Reason.TheVariants.{BadSlot, NoHeader, OtherSubpage, Erased, HeadDiffers, RowDiffers, LinksDiffer}
 use Rattle.ttx_witness.specs.declared.faults.reason.Reason.TheVariants.{NoWitness, WitnessBad, Late, Unsteady, LateBlank}

@@ -1,37 +1,17 @@
--- What a walk keeps of its two lists of slots, and its verdict on them.
+-- What a walk has become by taking a list of slots, and its verdict on two lists.
 --
---   walk_pages, walk_certificate, second_pages, second_certificate    the pages and the certificate of a walk, in each of its passes
---   Starts, Stands          a walk after a first list; after a first and a second list
 --   TookFirst, TookSecond   what a walk has become by taking these slots as its first list; as its second
 --   IsWalkVerdict           the verdict of a walk over two lists
 use Rattle.std.specs.Prelude.{◌≡◌, ℕ, List, []}
 use Rattle.ttx_page.specs.Pages.{Page}
 use Rattle.ttx_witness.specs.Coverage.{Certificate}
-use Rattle.ttx_witness.specs.passes.Passing.{IsFirstPass, IsSecondPass, IsBorneOut, pass_pages, certificate, pages_in, certificate_in}
+use Rattle.ttx_certify.specs.walks.Passing.{Starts, Stands, IsBorneOut, walk_pages, walk_certificate, second_pages, second_certificate}
 use Rattle.ttx_witness.specs.declared.faults.reason.Reason.TheVariants.{Unsteady}
 use Rattle.ttx_certify.specs.Verdicts.{IsVerdict}
 use Rattle.ttx_certify.specs.declared.verdict.Verdict.{Verdict}
 use Rattle.ttx_certify.specs.declared.verdict.Verdict.TheVariants.{No}
-use Rattle.ttx_certify.specs.declared.walking.Walk.{Walk}
-use Rattle.ttx_certify.specs.declared.walking.Second.{Second}
-
-abbrev pub walk_pages : Walk → List Page
-walk_pages walk = pass_pages walk.pass
-
-abbrev pub walk_certificate : Walk → Certificate
-walk_certificate walk = certificate walk.pass
-
-abbrev pub second_pages : Second → List Page
-second_pages second = pages_in second.pass
-
-abbrev pub second_certificate : Second → Certificate
-second_certificate second = certificate_in second.pass
-
-abbrev pub Starts : Walk → List (List ℕ) → Type 0
-Starts walk x = IsFirstPass walk.pass x
-
-abbrev pub Stands : Second → List (List ℕ) → List (List ℕ) → Type 0
-Stands second x y = IsSecondPass second.pass x y
+use Rattle.ttx_certify.specs.declared.walks.passing.Walk.{Walk}
+use Rattle.ttx_certify.specs.declared.walks.passing.Second.{Second}
 
 abbrev pub TookFirst : Walk → Walk → List (List ℕ) → Type 0
 TookFirst old new x =

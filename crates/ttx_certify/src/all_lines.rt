@@ -1,7 +1,7 @@
 //! The text of a verdict and of the first reason of each page.
 
 ghost use Rattle.std.specs.Prelude.{◌≡◌, ◌++◌, OnOk, IfOk, string_bytes};
-ghost use Rattle.ttx_witness.specs.Certificates.{fields_of};
+ghost use Rattle.ttx_certificate.specs.Certificates.{fields_of};
 ghost use Rattle.ttx_certify.specs.AllLines.{page_line, page_lines, has_reason, reasons_in, count_line, all_text};
 
 use crate::all_reasons::{AllReasons, PageReason};

@@ -1,14 +1,15 @@
 //! The first reason of each page, beside the verdict.
 
 ghost use Rattle.std.specs.Prelude.{ℕ, List, IfOk};
-ghost use Rattle.ttx_witness.specs.passes.Passing.{IsEnded, ended_pages, ended_certificate};
+ghost use Rattle.ttx_certify.specs.walks.Passing.{IsEnded, ended_pages, ended_certificate};
 ghost use Rattle.ttx_certify.specs.AllReasons.{AreReasons};
 ghost use Rattle.ttx_certify.specs.Verdicts.{IsVerdict};
 
 use crate::judging::{fault_at, judge};
 use crate::verdict::Verdict;
+use crate::walks::ending::EndedWalk;
 use std::alloc::Global;
-use ttx_witness::{EndedPass, NoMemory, Reason};
+use ttx_witness::{NoMemory, Reason};
 
 /// The first reason of a page, if there is one.
 #[derive(Clone, Copy)]
@@ -24,7 +25,7 @@ pub struct AllReasons {
 }
 
 // The first reason of each page.
-fn reasons_of(alloc: Global, ended: &EndedPass) -> Result<Vec<PageReason>, NoMemory>
+fn reasons_of(alloc: Global, ended: &EndedWalk) -> Result<Vec<PageReason>, NoMemory>
     ensures { IfOk result (λ told. (y : List (List ℕ)) → IsEnded ended.now y →
         AreReasons y (ended_pages ended.now) (ended_certificate ended.now) told.items) }
 {
@@ -41,7 +42,7 @@ fn reasons_of(alloc: Global, ended: &EndedPass) -> Result<Vec<PageReason>, NoMem
 }
 
 /// The verdict of `judge`, and the first reason of each page.
-pub fn judge_all(alloc: Global, ended: &EndedPass) -> Result<AllReasons, NoMemory>
+pub fn judge_all(alloc: Global, ended: &EndedWalk) -> Result<AllReasons, NoMemory>
     ensures verdict { IfOk result (λ all. (y : List (List ℕ)) → IsEnded ended.now y →
         IsVerdict y (ended_pages ended.now) (ended_certificate ended.now) all.verdict) }
     ensures reasons { IfOk result (λ all. (y : List (List ℕ)) → IsEnded ended.now y →

@@ -4,14 +4,14 @@ ghost use Rattle.std.specs.Prelude.{◌≡◌, ◌≢◌, IfOk, [], map};
 ghost use Rattle.std.specs.List.{AllPairs};
 ghost use Rattle.ttx_cycle.specs.Cycles.{slots_of};
 ghost use Rattle.ttx_page.specs.Views.{page_of, ids_of};
-ghost use Rattle.ttx_witness.specs.Certificates.{certificate_of};
+ghost use Rattle.ttx_certificate.specs.Certificates.{certificate_of};
 ghost use Rattle.ttx_certify.specs.AllReasons.{AreReasons};
 ghost use Rattle.ttx_certify.specs.Verdicts.{IsVerdict, Means};
-ghost use Rattle.ttx_certify.specs.Walking.{Starts, Stands, walk_pages, walk_certificate, second_pages, second_certificate};
+ghost use Rattle.ttx_certify.specs.walks.Passing.{Starts, Stands, walk_pages, walk_certificate, second_pages, second_certificate};
 
 use crate::all_reasons::AllReasons;
 use crate::verdict::Verdict;
-use crate::walking::{Second, Walk};
+use crate::walks::passing::{Second, Walk};
 use std::alloc::Global;
 use ttx_cycle::Cycle;
 use ttx_page::Page;
@@ -41,6 +41,25 @@ fn second_pass(second: &mut Second, cycle: &Cycle)
     }
 }
 
+// A walk that has taken the slots of the cycle in both passes.
+fn walk_twice<'a>(
+    alloc: Global,
+    cycle: &Cycle,
+    pages: &'a [Page],
+    certificate: &'a Certificate,
+) -> Result<Second<'a>, NoMemory>
+    requires distinct { AllPairs (λ a b. a ≢ b) (ids_of pages.now) }
+    ensures stands { IfOk result (λ second. Stands second (slots_of cycle.now) (slots_of cycle.now)) }
+    ensures pages { IfOk result (λ second. second_pages second ≡ map page_of pages.entry.now) }
+    ensures certificate { IfOk result (λ second. second_certificate second ≡ certificate_of certificate.entry.now) }
+{
+    let mut walk = Walk::new(alloc, pages, certificate)?;
+    first_pass(&mut walk, cycle);
+    let mut second = walk.begin_second();
+    second_pass(&mut second, cycle);
+    Ok(second)
+}
+
 /// Decides whether the cycle is accepted with the certificate for all pages, whose ids are distinct. If not, names the first reason: a bad
 /// slot first of all, then page by page in the order of the list, the smallest number, and the smallest slot or item and start.
 ///
@@ -56,13 +75,7 @@ pub fn certify(
     ensures exact { IfOk result (IsVerdict (slots_of cycle.now) (map page_of pages.now) (certificate_of certificate.now)) }
     ensures seen { IfOk result (Means (slots_of cycle.now) (map page_of pages.now) (certificate_of certificate.now)) }
 {
-    crate::laws::accepted_is_seen();
-    ttx_page::laws::pages_keep_their_rules();
-    ttx_witness::certificate_laws::certificates_keep_their_rules();
-    let mut walk = Walk::new(alloc, pages, certificate)?;
-    first_pass(&mut walk, cycle);
-    let mut second = walk.begin_second();
-    second_pass(&mut second, cycle);
+    let second = walk_twice(alloc, cycle, pages, certificate)?;
     Ok(second.finish())
 }
 
@@ -81,9 +94,6 @@ pub fn certify_all(
     ensures reasons { IfOk result (λ all.
         AreReasons (slots_of cycle.now) (map page_of pages.now) (certificate_of certificate.now) all.pages.items) }
 {
-    let mut walk = Walk::new(alloc, pages, certificate)?;
-    first_pass(&mut walk, cycle);
-    let mut second = walk.begin_second();
-    second_pass(&mut second, cycle);
+    let second = walk_twice(alloc, cycle, pages, certificate)?;
     second.finish_all(alloc)
 }

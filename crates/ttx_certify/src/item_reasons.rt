@@ -18,7 +18,7 @@ impl<'a> JudgedPage<'a> {
     ghost use Rattle.std.specs.Prelude.{◌≡◌, ◌<◌, ◌↔◌, IsTrue, MatchOption, true, false, ℕ, List, [], Some, length};
     ghost use Rattle.ttx_page.specs.declared.class.Class.TheVariants.{Clearing};
     ghost use Rattle.ttx_page.specs.Pages as definitions;
-    ghost use Rattle.ttx_witness.specs.passes.ItemProgress.{IsProgress};
+    ghost use Rattle.ttx_certify.specs.walks.ItemProgress.{IsProgress};
     ghost use Rattle.ttx_certify.specs.ItemReasons.{IsItemReason, IsReady, judged_page, judged_certificate};
 
     // Whether a receiver holds the item once it has cleared the page.

@@ -3,15 +3,16 @@
 ghost use Rattle.std.specs.Prelude.{◌≡◌, ◌<◌, ℕ, List, Some, None, MatchOption, length, slice_get};
 ghost use Rattle.ttx_page.specs.Pages as definitions;
 ghost use Rattle.ttx_witness.specs.faults.Faults.{IsFault};
-ghost use Rattle.ttx_witness.specs.passes.Passing.{IsEnded, ended_pages, ended_certificate};
+ghost use Rattle.ttx_certify.specs.walks.Passing.{IsEnded, ended_pages, ended_certificate};
 ghost use Rattle.ttx_certify.specs.Verdicts.{IsFirstFault, IsVerdict};
 
 use crate::page_reasons::witness_fault;
 use crate::verdict::Verdict;
-use ttx_witness::{EndedPass, Reason};
+use crate::walks::ending::EndedWalk;
+use ttx_witness::Reason;
 
 /// The first fault of the page at `index`.
-pub fn fault_at(ended: &EndedPass, index: usize) -> Option<Reason>
+pub fn fault_at(ended: &EndedWalk, index: usize) -> Option<Reason>
     requires { index < length ended.now.pages.now }
     ensures { (y : List (List ℕ)) (p : definitions.Page) → IsEnded ended.now y → slice_get (ended_pages ended.now) index ≡ Some p →
         IsFault y (ended_pages ended.now) p (ended_certificate ended.now) result }
@@ -23,7 +24,7 @@ pub fn fault_at(ended: &EndedPass, index: usize) -> Option<Reason>
 }
 
 // The first fault of the first page that has one.
-fn first_fault(ended: &EndedPass) -> Option<Reason>
+fn first_fault(ended: &EndedWalk) -> Option<Reason>
     ensures { (y : List (List ℕ)) → IsEnded ended.now y →
         MatchOption result ((n : ℕ) (p : definitions.Page) → slice_get (ended_pages ended.now) n ≡ Some p →
         IsFault y (ended_pages ended.now) p (ended_certificate ended.now) None)
@@ -39,7 +40,7 @@ fn first_fault(ended: &EndedPass) -> Option<Reason>
 
 /// The verdict on a list that ended with the owners with which it began: a slot that is not clean first of all, then page by page in the
 /// order of the list, the smallest number, and the smallest slot or item and start.
-pub fn judge(ended: &EndedPass) -> Verdict
+pub fn judge(ended: &EndedWalk) -> Verdict
     ensures { (y : List (List ℕ)) → IsEnded ended.now y → IsVerdict y (ended_pages ended.now) (ended_certificate ended.now) result }
 {
     ttx_witness::certificate_laws::certificates_keep_their_rules();

@@ -2,6 +2,11 @@
 //!
 //! With two passes (`Walk`, `certify_passes`) the verdict is about the second reading. The first one contributes only the headers at its
 //! end. If the second one ends with other headers, the verdict is `Unsteady`.
+//!
+//! The second pass records what each slot sends: the item, its header, whether it is sure, and the next slot of the same item, 28 bytes
+//! a slot, 1.8 MB for the 65,536 slots of the longest cycle, allocated before the first slot. It keeps no packet. A window for each item
+//! would take more: a run may go round the end of the period, so an item needs its last k transmissions, its first k - 1 and its
+//! progress, 232 bytes, 11.1 MB for 2,000 pages of 24 items.
 #![tactic(auto)]
 
 mod all_files;
@@ -20,7 +25,7 @@ mod takers;
 mod verdict;
 pub mod verdict_laws;
 mod verdict_lines;
-mod walking;
+mod walks;
 
 pub use all_files::All;
 pub use all_lines::{all_text, reasons_in};
@@ -31,7 +36,6 @@ pub use passes::{certify_passes, walk_files};
 pub use receiving::receive;
 pub use services::{certify_all_of_service, certify_service, find_service};
 pub use ttx_files::{FilesFault, TextFile};
-pub use ttx_witness::WalkFault;
 pub use verdict::Verdict;
 pub use verdict_lines::{push_reason, push_yes, verdict_line};
-pub use walking::{Second, Walk};
+pub use walks::passing::{Second, Walk, WalkFault};

@@ -7,12 +7,13 @@ ghost use Rattle.ttx_page.specs.Steady.{HasHeader};
 ghost use Rattle.ttx_page.specs.Streams.{repeated};
 ghost use Rattle.ttx_witness.specs.faults.Faults.{IsWitnessFault};
 ghost use Rattle.ttx_witness.specs.laws.JudgingLaws.{IsHeaderAnswer};
-ghost use Rattle.ttx_witness.specs.passes.Passing.{IsEnded, ended_pages, ended_certificate};
+ghost use Rattle.ttx_certify.specs.walks.Passing.{IsEnded, ended_pages, ended_certificate};
 ghost use Rattle.ttx_certify.specs.ItemReasons.{reason_number, told_first, judged_page, judged_certificate, IsReasonAt, IsReasonBelow, IsReadyAt};
 
 use crate::item_reasons::JudgedPage;
+use crate::walks::ending::EndedWalk;
 use ttx_page::Class;
-use ttx_witness::{EndedPass, Reason, item_of};
+use ttx_witness::{Reason, item_of};
 
 // The number of a reason.
 fn number(reason: &Reason) -> u8
@@ -52,7 +53,7 @@ fn told_first(earlier: &Option<Reason>, next: &Option<Reason>) -> Option<Reason>
 }
 
 // The first header of the page at `index` that the next one follows too late. Computed only for receivers that surely clear.
-fn late_header(ended: &EndedPass, index: usize) -> Option<u32>
+fn late_header(ended: &EndedWalk, index: usize) -> Option<u32>
     ensures { (y : List (List ℕ)) (p : definitions.Page) → IsEnded ended.now y → slice_get (ended_pages ended.now) index ≡ Some p →
         HasHeader (repeated y) p.id → (ended_certificate ended.now).class ≡ Clearing → IsHeaderAnswer y p (ended_certificate ended.now) result }
 {
@@ -65,7 +66,7 @@ fn late_header(ended: &EndedPass, index: usize) -> Option<u32>
 // The first true reason of the item with this number, of the page at `index`, and the place in the certificate where the search for the
 // next item begins. `near` is that place for this item; it does not change the reason.
 fn reason_at(
-    ended: &EndedPass,
+    ended: &EndedWalk,
     index: usize,
     judged: &JudgedPage,
     number: u8,
@@ -84,7 +85,7 @@ fn reason_at(
 }
 
 // The first true reason of the items of the page at `index`.
-fn first_reason(ended: &EndedPass, index: usize, judged: &JudgedPage) -> Option<Reason>
+fn first_reason(ended: &EndedWalk, index: usize, judged: &JudgedPage) -> Option<Reason>
     requires { index < length ended.now.pages.now }
     ensures { (y : List (List ℕ)) → IsReadyAt ended.now index judged.now y →
         IsReasonBelow y (judged_page judged.now) (judged_certificate judged.now) 26 result }
@@ -100,7 +101,7 @@ fn first_reason(ended: &EndedPass, index: usize, judged: &JudgedPage) -> Option<
 }
 
 /// The first true reason that concerns named starts, of the page at `index`, which has a header.
-pub fn witness_fault(ended: &EndedPass, index: usize) -> Option<Reason>
+pub fn witness_fault(ended: &EndedWalk, index: usize) -> Option<Reason>
     requires { index < length ended.now.pages.now }
     ensures { (y : List (List ℕ)) (p : definitions.Page) → IsEnded ended.now y → slice_get (ended_pages ended.now) index ≡ Some p →
         HasHeader (repeated y) p.id → IsWitnessFault y p (ended_certificate ended.now) result }

@@ -9,7 +9,7 @@ ghost use Rattle.ttx_certify.specs.CertifyingPasses.{WalksFiles, JudgesPasses, C
 
 use crate::files::line_of;
 use crate::verdict::Verdict;
-use crate::walking::Walk;
+use crate::walks::passing::Walk;
 use std::alloc::Global;
 use std::io::{Read, Write};
 use ttx_cycle::Counted;

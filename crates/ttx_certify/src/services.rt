@@ -3,7 +3,7 @@
 ghost use Rattle.std.specs.Prelude.{◌≤◌, IfOk};
 ghost use Rattle.ttx_cycle.specs.Cycles.{slots_of};
 ghost use Rattle.ttx_source.specs.Services.{pages_of};
-ghost use Rattle.ttx_witness.specs.Certificates.{certificate_of};
+ghost use Rattle.ttx_certificate.specs.Certificates.{certificate_of};
 ghost use Rattle.ttx_witness.specs.finding.Finding.{IsFoundFor};
 ghost use Rattle.ttx_certify.specs.AllReasons.{AreReasons};
 ghost use Rattle.ttx_certify.specs.Verdicts.{IsVerdict, Means};

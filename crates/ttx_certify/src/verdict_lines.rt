@@ -3,7 +3,7 @@
 ghost use Rattle.std.specs.Prelude.{◌≡◌, ◌∷◌, ◌++◌, [], OnOk, IfOk, string_bytes};
 ghost use Rattle.ttx_certify.specs.VerdictLines.{page_words, slot_words, item_words, start_words, reason_text, class_words, yes_text, verdict_text};
 ghost use Rattle.ttx_certify.specs.VerdictLines.{verdict_line};
-ghost use Rattle.ttx_witness.specs.Certificates.{fields_of};
+ghost use Rattle.ttx_certificate.specs.Certificates.{fields_of};
 
 use crate::verdict::Verdict;
 use std::alloc::{AllocError, Global};

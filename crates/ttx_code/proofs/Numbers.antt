@@ -7,7 +7,7 @@ use Rattle.std.specs.Int.Bits.{xor_self}
 use Rattle.ttx_code.proofs.Choices.{implied}
 use Rattle.ttx_code.specs.Words.{ones, distance, hamming_word, Reads, reading, number_of, is_word}
 use Rattle.ttx_code.specs.Laws.{WordsHaveNumbers, WordsAreWords, ReadingsAreNumbers, WordsAreReadUnderOneWrongBit, EachByteIsNearItself}
-use Rattle.ttx_code.specs.declared.hamming.TheConstants.{WORDS, NUMBERS}
+use Rattle.ttx_code.specs.declared.hamming.TheConstants.{WORDS, NUMBERS, ARE_WORDS}
 
 pub word_at : (n : ℕ) → n < 16 → get_or WORDS n 0 ≡ hamming_word n
 unfolding hamming_word
@@ -72,10 +72,6 @@ Reads-word b n l e = record {
       (leb-true _ _ (agree_below_at (λ n. leb (distance (hamming_word n) (hamming_word n)) 1) (λ _. true) 16 n near_itself l));
 }
 
--- a byte reads as at most one number
-pub Reads-one : (b m n : ℕ) → b < 256 → Reads b m → Reads b n → m ≡ n
-Reads-one b m n l r s = sym (number_from_Reads b m l r) ∙ number_from_Reads b n l s
-
 ---- readings and code words
 
 pub reading-from_Reads : (b n : ℕ) → b < 256 → Reads b n → reading b ≡ Some n
@@ -113,6 +109,14 @@ pub words_have_numbers : WordsHaveNumbers
 words_have_numbers b l w =
     let parts = and_parts _ _ (implied _ _ (agree_below_at word_has_number (λ _. true) 256 b words_have_numbers_table l) w) in
     (from_is_reading _ _ parts.0, ltb-true _ _ parts.1, sym (eqb-true _ _ w))
+
+-- the table of code words
+words_by_table : agree_below (λ b. get_or ARE_WORDS b false) is_word 256 ≡ true
+unfolding reading ones distance hamming_word
+words_by_table = refl
+
+pub is_word_by_table : (b : ℕ) → b < 256 → get_or ARE_WORDS b false ≡ is_word b
+is_word_by_table b l = agree_below_at (λ b. get_or ARE_WORDS b false) is_word 256 b words_by_table l
 
 pub words_are_words_table : agree_below (λ n. is_word (hamming_word n)) (λ _. true) 16 ≡ true
 unfolding reading ones distance hamming_word

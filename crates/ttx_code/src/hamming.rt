@@ -29,6 +29,27 @@ static NUMBERS: [u8; 256] = [
      8, 16, 16,  5, 16, 14, 13, 16, 16, 14, 15, 16, 14, 14, 16, 14,
 ];
 
+// Whether each byte is a code word.
+#[rattlefmt::skip]
+static ARE_WORDS: [bool; 256] = [
+    false, false, true, false, false, false, false, false, false, false, false, false, false, false, false, false,
+    false, false, false, false, false, true, false, false, false, false, false, false, false, false, false, false,
+    false, false, false, false, false, false, false, false, false, false, false, false, false, false, false, true,
+    false, false, false, false, false, false, false, false, true, false, false, false, false, false, false, false,
+    false, false, false, false, false, false, false, false, false, true, false, false, false, false, false, false,
+    false, false, false, false, false, false, false, false, false, false, false, false, false, false, true, false,
+    false, false, false, false, true, false, false, false, false, false, false, false, false, false, false, false,
+    false, false, false, true, false, false, false, false, false, false, false, false, false, false, false, false,
+    false, false, false, false, false, false, false, false, false, false, false, false, true, false, false, false,
+    false, false, false, false, false, false, false, false, false, false, false, true, false, false, false, false,
+    false, true, false, false, false, false, false, false, false, false, false, false, false, false, false, false,
+    false, false, false, false, false, false, true, false, false, false, false, false, false, false, false, false,
+    false, false, false, false, false, false, false, true, false, false, false, false, false, false, false, false,
+    true, false, false, false, false, false, false, false, false, false, false, false, false, false, false, false,
+    false, false, false, false, false, false, false, false, false, false, true, false, false, false, false, false,
+    false, false, false, false, false, false, false, false, false, false, false, false, false, true, false, false,
+];
+
 /// The Hamming 8/4 code word of a number below 16.
 pub fn ham(n: u8) -> u8
     requires { n < 16 }
@@ -52,8 +73,5 @@ pub fn is_word(b: u8) -> bool
     ensures word { IsTrue result ↔ IsWord b }
     ensures value { result ≡ is_word b }
 {
-    match unham(b) {
-        Some(n) => ham(n) == b,
-        None => false,
-    }
+    ARE_WORDS[usize::from(b)]
 }

@@ -94,11 +94,6 @@ whole cycle pages p c here former r w = record {
 pub same_page : (pages : List Page) (n : ℕ) (p q : Page) → slice_get pages n ≡ Some p → slice_get pages n ≡ Some q → p ≡ q
 same_page pages n p q a b = cc
 
-pub in_range : (cycle : List (List ℕ)) (pages : List Page) (p : Page) (c : CounterRun) → slice_get pages c.page ≡ Some p →
-    IsCounterRun cycle pages c → IsInRange cycle pages p c
-in_range cycle pages p c here r = subst (λ q. IsInRange cycle pages q c) (same_page pages c.page r.page p r.here here)
-    (record { fits = r.fits; numbers = r.numbers; lasts = r.lasts; each = r.hits.each })
-
 pub refuting : (cycle : List (List ℕ)) (pages : List Page) (p : Page) (c : CounterRun) → slice_get pages c.page ≡ Some p →
     IsCounterRun cycle pages c → IsRefuting cycle p c
 refuting cycle pages p c here r = subst (λ q. IsRefuting cycle q c) (same_page pages c.page r.page p r.here here)

@@ -5,7 +5,7 @@ use Rattle.std.specs.List.{list_any}
 use Rattle.std.specs.List.Sorted.{IsNonDecreasing}
 use Rattle.std.proofs.lemmas.Bool.{cases_lt, both_ways, cases_Bool}
 use Rattle.std.proofs.lemmas.List.Folds.{list_any_at}
-use Rattle.ttx_counter.specs.Keys.{key_at, slot_in, byte_in, byte_place, is_hit, AreSlotKeys, AreHitOnce}
+use Rattle.ttx_counter.specs.Keys.{key_at, slot_in, byte_in, byte_place, is_hit, AreSlotKeys}
 use Rattle.ttx_counter.specs.Rule.{IsCursor}
 
 -- the parts of a key
@@ -40,13 +40,6 @@ module _ (keys : List ℕ) where
 
   pub cursor_begins : IsCursor keys 0 0
   cursor_begins = record { within = omega arith; before = λ i lt. absurd (omega arith); after = λ i a b. omega arith }
-
-  -- no byte of a slot is hit twice
-  pub own_bytes : AreHitOnce keys → (n from to : ℕ) → AreSlotKeys keys n from to → (i j : ℕ) → from ≤ i → i < j → j < to →
-      byte_in (key_at keys i) ≡ byte_in (key_at keys j) → ⊥
-  own_bytes apart n from to s i j low lt high e =
-      let a = s.own i low (omega arith) in let b = s.own j (omega arith) high in
-      apart i j lt (let w = s.within in omega arith) (omega (arith, parts (key_at keys i), parts (key_at keys j)))
 
   module _ (sorted : IsNonDecreasing keys) (n from to : ℕ) (c : IsCursor keys n from) (s : AreSlotKeys keys n from to) where
     slot_rises : (i j : ℕ) → i ≤ j → j < length keys → slot_in (key_at keys i) ≤ slot_in (key_at keys j)

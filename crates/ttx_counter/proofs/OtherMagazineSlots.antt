@@ -11,7 +11,6 @@ use Rattle.ttx_page.specs.Memories.{Memory}
 use Rattle.ttx_page.specs.Receivers.{after, with_storing, begun, erased, erases, misses}
 use Rattle.ttx_page.specs.Streams.{heads_matched}
 use Rattle.ttx_counter.specs.Magazines.{magazine_in}
-use Rattle.ttx_counter.specs.Sources.{is_under, takes_from}
 
 -- a header of another magazine does not match
 unmatched : (sel : Selection) (packet : Packet) → (magazine_in packet ≡ selected_mag sel → ⊥) → heads_matched sel packet ≡ false
@@ -25,19 +24,6 @@ unmatched sel (Row mag number text) ne = refl
 unmatched sel (Links mag content) ne = refl
 unmatched sel Info ne = refl
 unmatched sel Other ne = refl
-
-not_of : (sel : Selection) (packet : Packet) → (magazine_in packet ≡ selected_mag sel → ⊥) → is_under (selected_mag sel) packet ≡ false
-not_of sel (Row mag number text) ne = ne_eqb mag (selected_mag sel) ne
-not_of sel (Links mag content) ne = ne_eqb mag (selected_mag sel) ne
-not_of sel (Header id control text) ne = refl
-not_of sel Empty ne = refl
-not_of sel Unreadable ne = refl
-not_of sel Info ne = refl
-not_of sel Other ne = refl
-
--- nothing of it is taken
-pub not_taken : (sel : Selection) (m : Memory) (packet : Packet) → (magazine_in packet ≡ selected_mag sel → ⊥) → takes_from sel m packet ≡ false
-not_taken sel m packet ne = rw (unmatched sel packet ne) (rw (not_of sel packet ne) refl)
 
 stays : (lines : ℕ) (sel : Selection) (m : Memory) (packet : Packet) → (magazine_in packet ≡ selected_mag sel → ⊥) →
     after Any lines sel false m packet ≡ m

@@ -250,10 +250,6 @@ written_is_read c is =
     let e = read c is (each_hit c.hits is.each) in
     ap (judged (counter_text c)) e ∙ cond-true (bytes_eq (counter_text c) (counter_text c)) (Ok c) (Err _) (itself (counter_text c))
 
--- the value of Ok
-ok_is : {A E : Type 0} (a : A) (x y : A) → ◌≡◌ {A = Rattle.std.specs.Prelude.Result A E} (Ok x) (Ok y) → x ≡ y
-ok_is a x y e = cc
-
 pub accepted_is_written : AcceptedCounterTextsAreWritten
 accepted_is_written bytes c read =
     let d = counter_in (line_numbers bytes) in

@@ -23,7 +23,6 @@ use Rattle.ttx_witness.specs.laws.CycleLaws.{FurtherStartsCover}
 use Rattle.ttx_witness.specs.finding.Finding.{IsSentUnchanged, CanBeAccepted}
 use Rattle.ttx_counter.specs.Laws.{RefutedIsNotAccepted}
 use Rattle.ttx_witness.specs.faults.Faults.{IsPageFault, SteadyHasNoFault}
-use Rattle.ttx_witness.specs.declared.sent.collected.Collected.{Collected}
 use Rattle.ttx_witness.specs.declared.faults.reason.Reason.{Reason}
 use Rattle.ttx_witness.specs.declared.faults.reason.Reason.TheVariants.{BadSlot, NoHeader, OtherSubpage, Erased, HeadDiffers, RowDiffers, LinksDiffer}
 use Rattle.ttx_witness.specs.declared.faults.reason.Reason.TheVariants.{NoWitness, WitnessBad, Late, Unsteady, LateBlank}
@@ -33,8 +32,9 @@ use Rattle.ttx_counter.specs.Sources.{plain_counter, PlainRunsAreCounterRuns, Ab
 use Rattle.ttx_counter.specs.Starving.{fullest, IsCoveredByOne}
 use Rattle.ttx_certify.specs.Verdicts.{IsClean}
 use Rattle.ttx_counter.specs.Completeness.{StarvingIsCounterRun, FullestNamesAll, StarvedIsNotCovered}
-use Rattle.ttx_counter.specs.Refutations.{is_absent, ArePrepared, IsCounterTo, IsSentWell, TellsStart, TellsNeeded, TellsCovered, TellsPage}
+use Rattle.ttx_counter.specs.Refutations.{is_absent, NamesSureStarts, IsCounterTo, IsSentWell, TellsStart, TellsNeeded, TellsCovered, TellsPage}
 use Rattle.ttx_counter.specs.Refutations.{TellsPages, TellsPlainly, TellsAllPlainly, TellsCounter, IsCounterOf, IsFirstUnsent, IsFirstWrong, TellsFirst}
+use Rattle.ttx_counter.proofs.CheckIsExact.{same_page}
 use Rattle.ttx_counter.proofs.PlainRuns.{numbers_of, plain_to}
 use Rattle.ttx_counter.proofs.StarvedIsUnseen.{other_is}
 
@@ -47,10 +47,6 @@ differ_too e = cc
 pub ok_map : {A E : Type 0} (P Q : A → Type 0) (r : Result A E) → ((a : A) → P a → Q a) → IfOk r P → IfOk r Q
 ok_map P Q (Ok a) f h = f a h
 ok_map P Q (Err e) f h = h
-
--- a page at a place of a list is one of the list
-one_page : (pages : List Page) (n : ℕ) (p q : Page) → slice_get pages n ≡ Some p → slice_get pages n ≡ Some q → p ≡ q
-one_page pages n p q a b = cc
 
 -- what a viewer sees is an item of the page
 needed_item : (p : Page) (item : Item) → needed p item ≡ true → IsItem item
@@ -96,56 +92,48 @@ module _ (cycle : List (List ℕ)) (pages : List Page) (w : Certificate) where
       IsCertificate w → IsClean cycle → Steady (repeated cycle) pages p →
       (item : Item) (start : ℕ) → TellsNeeded cycle p w item (Some start) →
       (run : CounterRun) → run ≡ starving_run cycle index p item start w.lines w.repeat w.deadline → StarvedIsNotCovered →
-      (q : Page) → slice_get pages index ≡ Some q → IsCounterOf cycle pages w index run × (IsCoveredByOne cycle q w → ⊥)
-  starved_of law p index here is_cycle page is clean steady item start starved run made never q at = (
+      IsCounterOf cycle pages w index run × (IsCoveredByOne cycle p w → ⊥)
+  starved_of law p index here is_cycle page is clean steady item start starved run made never = (
     (
       starved_to law p index here is_cycle page is clean steady item start starved w.lines w.repeat w.deadline refl refl refl run made,
       ap (λ (x : CounterRun). x.page) made,
     ),
-    (λ one. never cycle (let some = is_cycle.some in omega arith) p w item starved.0 start starved.1
-        (subst (λ x. IsCoveredByOne cycle x w) (one_page pages index q p at here) one)),
+    never cycle (let some = is_cycle.some in omega arith) p w item starved.0 start starved.1,
   )
 
-  pub named_for : (found : Certificate) (collected : Collected) → ArePrepared cycle pages w found collected → (index : ℕ) (p : Page) →
-      slice_get pages index ≡ Some p →
+  pub named_for : (found : Certificate) → NamesSureStarts cycle pages w found → (index : ℕ) (p : Page) → slice_get pages index ≡ Some p →
       (item : Item) → IsItem item → needed p item ≡ true → (starts : List ℕ) → starts ≡ found.starts p.id item →
       (start : ℕ) → Contains starts start ↔ IsSureStart cycle p.id w.lines w.repeat item start
-  named_for found collected prepared index p here item is need starts e start =
-      let n = prepared.named index p here item is start in (
+  named_for found names index p here item is need starts e start =
+      let n = names index p here item is start in (
         (λ c. (n.0 (subst (λ xs. Contains xs start) e c)).1),
         (λ s. subst (λ xs. Contains xs start) (sym e) (n.1 (need, s))),
       )
 
-  pub needed_told : (index : ℕ) (p : Page) → slice_get pages index ≡ Some p → (item : Item) → needed p item ≡ true → (o : Option ℕ) →
-      TellsStart cycle p w item o →
-      (q : Page) → slice_get pages index ≡ Some q → TellsNeeded cycle q w item o
-  needed_told index p here item need o told q at = subst (λ x. TellsNeeded cycle x w item o) (one_page pages index p q here at) (go o told)
-    where
-      go : (o : Option ℕ) → TellsStart cycle p w item o → TellsNeeded cycle p w item o
-      go None t = λ _. t
-      go (Some start) t = (need, t)
+  pub needed_told : (p : Page) (item : Item) → needed p item ≡ true → (o : Option ℕ) → TellsStart cycle p w item o → TellsNeeded cycle p w item o
+  needed_told p item need None t = λ _. t
+  needed_told p item need (Some start) t = (need, t)
 
-  -- the items whose numbers are below n are covered
-  abbrev pub CoveredTo : ℕ → ℕ → Type 0
-  CoveredTo index n = (p : Page) → slice_get pages index ≡ Some p → (item : Item) → IsItem item → item_number item < n → needed p item
-      ≡ true → IsCovered cycle p (fullest cycle w) item
+  module _ (p : Page) where
+    -- the items whose numbers are below n are covered
+    abbrev pub CoveredTo : ℕ → Type 0
+    CoveredTo n = (item : Item) → IsItem item → item_number item < n → needed p item ≡ true → IsCovered cycle p (fullest cycle w) item
 
-  pub covered_more : (index n : ℕ) → CoveredTo index n → (own : Item) → IsItem own → item_number own ≡ n → (o : Option ℕ) → o ≡ None →
-      ((p : Page) → slice_get pages index ≡ Some p → TellsNeeded cycle p w own o) → CoveredTo index (n + 1)
-  covered_more index n before own is place o none told p here item is_item lt need =
-      elim (cases_lt (item_number item) n) as (λ _. IsCovered cycle p (fullest cycle w) item) [
-        | inl less ↦ before p here item is_item less need
-        | inr ge ↦
-            let same : own ≡ item = one_item own item is is_item (omega arith) in
-            let t = subst (TellsNeeded cycle p w own) none (told p here) in
-            subst (λ x. needed p x ≡ true → IsCovered cycle p (fullest cycle w) x) same t need
-      ]
+    pub covered_more : (n : ℕ) → CoveredTo n → (own : Item) → IsItem own → item_number own ≡ n → (o : Option ℕ) → o ≡ None →
+        TellsNeeded cycle p w own o → CoveredTo (n + 1)
+    covered_more n before own is place o none told item is_item lt need =
+        elim (cases_lt (item_number item) n) as (λ _. IsCovered cycle p (fullest cycle w) item) [
+          | inl less ↦ before item is_item less need
+          | inr ge ↦
+              let same : own ≡ item = one_item own item is is_item (omega arith) in
+              let t = subst (TellsNeeded cycle p w own) none told in
+              subst (λ x. needed p x ≡ true → IsCovered cycle p (fullest cycle w) x) same t need
+        ]
 
-  pub covered_all : (index : ℕ) → CoveredTo index 26 → (p : Page) → slice_get pages index ≡ Some p → (item : Item) → needed p item
-      ≡ true → IsCovered cycle p (fullest cycle w) item
-  covered_all index before p here item need = let i = needed_item p item need in before p here item i (item_within item i) need
+    pub covered_all : CoveredTo 26 → (item : Item) → needed p item ≡ true → IsCovered cycle p (fullest cycle w) item
+    covered_all before item need = let i = needed_item p item need in before item i (item_within item i) need
 
-  pub absent_to : AbsentPagesAreWrong → PlainRunsAreCounterRuns → IsCycle cycle → IsCertificate w → (p : Page) (index : ℕ) →
+  absent_to : AbsentPagesAreWrong → PlainRunsAreCounterRuns → IsCycle cycle → IsCertificate w → (p : Page) (index : ℕ) →
       slice_get pages index ≡ Some p → HasNoHeader (repeated cycle) p →
       IsMemory (wrong_memory p TheLinks) → (run : CounterRun) → run
       ≡ plain_counter index false (wrong_memory p TheLinks) w.lines w.repeat w.deadline (limit w) →
@@ -162,14 +150,10 @@ module _ (cycle : List (List ℕ)) (pages : List Page) (w : Certificate) where
       slice_get pages index ≡ Some p → HasNoHeader (repeated cycle) p →
       IsMemory (wrong_memory p TheLinks) → (run : CounterRun) → run
       ≡ plain_counter index false (wrong_memory p TheLinks) w.lines w.repeat w.deadline (limit w) →
-      (q : Page) → slice_get pages index ≡ Some q → IsCounterOf cycle pages w index run × (IsSentWell cycle pages q w → ⊥)
-  absent_of absent plain is_cycle is p index here none memory run made q at = (
+      IsCounterOf cycle pages w index run × (IsSentWell cycle pages p w → ⊥)
+  absent_of absent plain is_cycle is p index here none memory run made = (
     (absent_to absent plain is_cycle is p index here none memory run made, ap (λ (x : CounterRun). x.page) made),
-    (λ well.
-        let same = one_page pages index q p at here in
-        let there = (subst (λ x. IsSentWell cycle pages x w) same well).header in
-        let h : false ≡ true = sym (none there.slot) ∙ there.is_header in
-        differ h),
+    (λ well. let h : false ≡ true = sym (none well.header.slot) ∙ well.header.is_header in differ h),
   )
 
   module _ (p : Page) where
@@ -218,60 +202,49 @@ module _ (cycle : List (List ℕ)) (pages : List Page) (w : Certificate) where
 
   module _ (law : SteadyHasNoFault) (p : Page) (fault : Option Reason) (is : IsPageFault cycle pages p fault) (there : is_absent fault ≡ false) where
     -- with a fault, or a slot that is not clean, coverage is not asked for
-    pub well_unless : (clean : Bool) → (clean ≡ true) ↔ IsClean cycle → (clean ≡ false) ⊎ (is_some fault ≡ true) → (q : Page) → p ≡ q →
-        IsSentWell cycle pages q w
-    well_unless clean told why q same = subst (λ x. IsSentWell cycle pages x w) same (record {
+    pub well_unless : (clean : Bool) → (clean ≡ true) ↔ IsClean cycle → (clean ≡ false) ⊎ (is_some fault ≡ true) → IsSentWell cycle pages p w
+    well_unless clean told why = record {
       header = header_of p fault is there;
       covered = λ cl steady. absurd (elim why as (λ _. ⊥) [
         | inl unclean ↦ let h : true ≡ false = sym (told.1 cl) ∙ unclean in cc
         | inr some ↦ let h : false ≡ true = sym (ap (λ (x : Option Reason). is_some x) ((law cycle pages p fault is).1 steady)) ∙ some in cc
       ]);
-    })
+    }
 
-    pub steady_if : is_some fault ≡ false → (q : Page) → p ≡ q → Steady (repeated cycle) pages q
-    steady_if e q same = subst (Steady (repeated cycle) pages) same ((law cycle pages p fault is).0 (no_fault fault e))
+    pub steady_if : is_some fault ≡ false → Steady (repeated cycle) pages p
+    steady_if e = (law cycle pages p fault is).0 (no_fault fault e)
       where
         no_fault : (o : Option Reason) → is_some o ≡ false → o ≡ None
         no_fault None e = refl
         no_fault (Some r) e = cc
 
     pub page_told : FullestNamesAll → IsCycle cycle → IsCertificate w → {C : Type 0} → (run : C → CounterRun) → (o : Option C) →
-        is_some fault ≡ false → IsClean cycle → (index : ℕ) (q : Page) → p ≡ q → TellsCovered run cycle pages index q w o →
-        TellsPage run cycle pages index q w o
-    page_told names is_cycle is_w run None none clean index q same covered =
-        record {
-          header = subst (λ (x : Page). HasHeader (repeated cycle) x.id) same (header_of p fault is there);
-          covered = λ _ _. covered_by_one names is_cycle is_w q covered;
-        }
-    page_told names is_cycle is_w run (Some c) none clean index q same to = (to.0, (λ well. to.1 (well.covered clean (steady_if none q same))))
-
-  here_is : (xs : List Page) (i : ℕ) → i < length xs → (p : Page) × (slice_get xs i ≡ Some p)
-  here_is [] i lt = absurd (omega arith)
-  here_is (x ∷ xs) zero lt = (x, refl)
-  here_is (x ∷ xs) (suc i) lt = here_is xs i (omega arith)
+        is_some fault ≡ false → IsClean cycle → (index : ℕ) → TellsCovered run cycle pages index p w o → TellsPage run cycle pages index p w o
+    page_told names is_cycle is_w run None none clean index covered =
+        record { header = header_of p fault is there; covered = λ _ _. covered_by_one names is_cycle is_w p covered }
+    page_told names is_cycle is_w run (Some c) none clean index to = (to.0, (λ well. to.1 (well.covered clean (steady_if none))))
 
   -- the pages before the index
   abbrev pub SentTo : ℕ → Type 0
   SentTo index = (n : ℕ) (p : Page) → n < index → slice_get pages n ≡ Some p → IsSentWell cycle pages p w
 
   module _ {C : Type 0} (run : C → CounterRun) where
-    pub first_told : (index : ℕ) → index < length pages → SentTo index → (o : Option C) → is_some o ≡ true →
-        ((p : Page) → slice_get pages index ≡ Some p → TellsPage run cycle pages index p w o) → TellsPages run cycle pages w o
-    first_told index lt before None e f = absurd (differ e)
-    first_told index lt before (Some c) e f =
-        let h = here_is pages index lt in
-        let told = f h.0 h.1 in (
-          told.0.0,
-          subst (IsFirstUnsent cycle pages w) (sym told.0.1) (record { page = h.0; here = h.1; unsent = told.1; none_before = before }),
-        )
+    module _ (index : ℕ) (before : SentTo index) (p : Page) (here : slice_get pages index ≡ Some p) where
+      pub first_told : (o : Option C) → is_some o ≡ true → TellsPage run cycle pages index p w o → TellsPages run cycle pages w o
+      first_told None e told = absurd (differ e)
+      first_told (Some c) e told = (
+        told.0.0,
+        subst (IsFirstUnsent cycle pages w) (sym told.0.1) (record { page = p; here = here; unsent = told.1; none_before = before }),
+      )
 
-    pub sent_more : (index : ℕ) → SentTo index → (o : Option C) → is_some o ≡ false →
-        ((p : Page) → slice_get pages index ≡ Some p → TellsPage run cycle pages index p w o) → SentTo (index + 1)
-    sent_more index before (Some c) e f = absurd (differ_too e)
-    sent_more index before None e f = λ n p lt here. elim (cases_lt n index) as (λ _. IsSentWell cycle pages p w) [
-      | inl less ↦ before n p less here
-      | inr ge ↦ let same : n ≡ index = omega arith in f p (subst (λ x. slice_get pages x ≡ Some p) same here)
-    ]
+      pub sent_more : (o : Option C) → is_some o ≡ false → TellsPage run cycle pages index p w o → SentTo (index + 1)
+      sent_more (Some c) e told = absurd (differ_too e)
+      sent_more None e told = λ n q lt at. elim (cases_lt n index) as (λ _. IsSentWell cycle pages q w) [
+        | inl less ↦ before n q less at
+        | inr ge ↦
+            let same : n ≡ index = omega arith in
+            subst (λ x. IsSentWell cycle pages x w) (same_page pages index p q here (subst (λ x. slice_get pages x ≡ Some q) same at)) told
+      ]
 
     pub counter_told : (o : Option C) → is_some o ≡ true → TellsPages run cycle pages w o → TellsCounter run cycle pages w o
     counter_told None e t = absurd (differ e)

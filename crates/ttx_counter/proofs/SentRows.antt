@@ -138,9 +138,6 @@ module _ (s : Stream) (page : Id) where
   ]
 
   -- what a slot sends
-  none_is : (r : ℕ) → is_row r None ≡ true → ⊥
-  none_is r h = both_ways _ refl h
-
   sent_head : (mine : Bool) (p : Packet) → IsNumbered p → (is_row 0 (row_sent page p mine) ≡ true) ↔ (heads_page page p ≡ true)
   sent_head mine (Header id control text) a = cond_both (same_id page id) _ _ (λ x. (is_row 0 x ≡ true) ↔ (same_id page id ≡ true))
       (λ e. ((λ _. e), (λ _. refl))) (λ e. ((λ h. absurd (both_ways _ refl h)), (λ h. absurd (both_ways _ e h))))

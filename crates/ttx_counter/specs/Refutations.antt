@@ -4,7 +4,7 @@
 --   TellsNeeded             the same for an item that a viewer sees
 --   IsAfterOwner            the slot of the period that follows the owner of the transmission in a slot
 --   IsCounterTo, IsCounterOf        a counter-run with the numbers of a certificate; one of the page at a place of the list
---   ArePrepared             what is computed once from a cycle and its pages
+--   NamesSureStarts         a certificate names the starts of the sure runs of all items that a viewer sees
 --   is_absent               the fault of a page without a header
 --   TellsCovered            a counter-run of a page that no certificate covers; None if all its sure runs cover each item
 --   IsSentWell, TellsPage    the page has a header, and is covered if it is steady; a counter-run, or None if so
@@ -19,10 +19,8 @@ use Rattle.ttx_page.specs.declared.item.Item.{Item}
 use Rattle.ttx_page.specs.Streams.{repeated, turned}
 use Rattle.ttx_page.specs.Steady.{HasHeader, Steady}
 use Rattle.ttx_witness.specs.declared.runs.transmissions.Transmission.{Transmission}
-use Rattle.ttx_witness.specs.sent.AllSent.{AreAllSent}
 use Rattle.ttx_witness.specs.sent.Collected.{IsItem}
 use Rattle.ttx_witness.specs.Coverage.{Certificate, limit, IsSureStart, IsCovered}
-use Rattle.ttx_witness.specs.declared.sent.collected.Collected.{Collected}
 use Rattle.ttx_witness.specs.declared.faults.reason.Reason.{Reason}
 use Rattle.ttx_witness.specs.declared.faults.reason.Reason.TheVariants.{BadSlot, NoHeader, OtherSubpage, Erased, HeadDiffers, RowDiffers, LinksDiffer}
 use Rattle.ttx_witness.specs.declared.faults.reason.Reason.TheVariants.{NoWitness, WitnessBad, Late, Unsteady, LateBlank}
@@ -46,11 +44,11 @@ IsAfterOwner sent period at start =
     ((t : Transmission) × Contains sent t × (t.slot ≡ pos at) × (start ≡ turned period (t.owner +ℤ pos 1)))
     ⊎ ((t : Transmission) → Contains sent t → t.slot ≡ pos at → ⊥)
 
--- the transmissions of the pages' items, and the starts of the sure runs of all items that a viewer sees
-pub record ArePrepared (cycle : List (List ℕ)) (pages : List Page) (w found : Certificate) (collected : Collected) : Type 0 where
-  pub sent : AreAllSent cycle pages w.lines collected
-  pub named : (n : ℕ) (p : Page) → slice_get pages n ≡ Some p → (item : Item) → IsItem item →
-      (start : ℕ) → Contains (found.starts p.id item) start ↔ ((needed p item ≡ true) × IsSureStart cycle p.id w.lines w.repeat item start)
+-- the starts of the sure runs of all items that a viewer sees
+abbrev pub NamesSureStarts : List (List ℕ) → List Page → Certificate → Certificate → Type 0
+NamesSureStarts cycle pages w found =
+    (n : ℕ) (p : Page) → slice_get pages n ≡ Some p → (item : Item) → IsItem item →
+    (start : ℕ) → Contains (found.starts p.id item) start ↔ ((needed p item ≡ true) × IsSureStart cycle p.id w.lines w.repeat item start)
 
 -- the fault is that the page has no header
 abbrev pub is_absent : Option Reason → Bool

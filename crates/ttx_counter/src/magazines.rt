@@ -21,6 +21,7 @@ use ttx_witness::NoMemory;
 pub struct Sorted<'a> {
     pub cycle: &'a Cycle,
     pub magazines: &'a [u8],
+    ghost sorted: { magazines.now ≡ map magazine_of (slots_of cycle.now) },
 }
 
 fn header_magazine(bytes: &[u8; 42]) -> u8
@@ -75,8 +76,7 @@ pub fn selected(selection: &Selection) -> u8
 
 /// The magazine of the slot at an index.
 pub fn magazine_at(sorted: &Sorted<'_>, at: usize) -> u8
-    requires magazines { sorted.now.magazines.now ≡ map magazine_of (slots_of sorted.now.cycle.now) }
-    requires at { at < length (slots_of sorted.now.cycle.now) }
+    requires { at < length (slots_of sorted.now.cycle.now) }
     ensures { result ≡ magazine_of (slice_index_or (slots_of sorted.now.cycle.now) at []) }
 {
     sorted.magazines[at]
@@ -84,8 +84,7 @@ pub fn magazine_at(sorted: &Sorted<'_>, at: usize) -> u8
 
 /// Gives the receiver the slot at an index. A slot of another magazine has the same effect as an empty one.
 pub fn hear_at(receiver: &mut Eager, sorted: &Sorted<'_>, at: usize)
-    requires magazines { sorted.now.magazines.now ≡ map magazine_of (slots_of sorted.now.cycle.now) }
-    requires at { at < length (slots_of sorted.now.cycle.now) }
+    requires { at < length (slots_of sorted.now.cycle.now) }
     ensures value { receiver.new ≡ stepped Any false receiver.old (slice_index_or (slots_of sorted.now.cycle.now) at []) }
     ensures selection { receiver.new.selection ≡ receiver.old.selection }
     ensures lines { receiver.new.lines ≡ receiver.old.lines }

@@ -1,6 +1,6 @@
 //! Plain runs: runs from slot 0 on, without hits, of a receiver that takes no choice.
 
-ghost use Rattle.std.specs.Prelude.{◌≡◌, ℕ, ◌+◌, ◌-◌, ◌*◌, ◌<◌, ◌≤◌, ◌^◌, ◌==◌, ◌&&◌, pos, true, IsTrue, ◌↔◌, MatchOption, [], map, length};
+ghost use Rattle.std.specs.Prelude.{◌≡◌, ℕ, ◌+◌, ◌-◌, ◌*◌, ◌<◌, ◌≤◌, ◌^◌, ◌==◌, ◌&&◌, pos, true, IsTrue, ◌↔◌, MatchOption, [], length};
 ghost use Rattle.std.specs.Prelude.{slice_index_or};
 ghost use Rattle.ttx_header.specs.Headers.{is_header, id_of};
 ghost use Rattle.ttx_page.specs.Packets.{packet_of};
@@ -11,7 +11,6 @@ ghost use Rattle.ttx_page.specs.Views.{page_of, memory_of};
 ghost use Rattle.ttx_page.specs.Memories.{Memory, memory_of_page};
 ghost use Rattle.ttx_cycle.specs.Cycles.{slots_of};
 ghost use Rattle.ttx_render.specs.View.{view_of};
-ghost use Rattle.ttx_counter.specs.Magazines.{magazine_of};
 ghost use Rattle.ttx_counter.specs.Sources.{plain_from, is_under, takes_from, TellsWrong};
 
 use crate::checking::is_unlike;
@@ -73,7 +72,6 @@ fn are_same(a: &PageMemory, b: &PageMemory) -> bool
 
 // Gives the receiver `count` slots of the cycle, from slot `begin` of the run on.
 fn advance(receiver: &mut Eager, sorted: &Sorted<'_>, begin: u32, count: u32)
-    requires magazines { sorted.now.magazines.now ≡ map magazine_of (slots_of sorted.now.cycle.now) }
     ensures memory { receiver.new.memory ≡ plain_from receiver.old.lines receiver.old.selection receiver.old.memory
         (repeated (slots_of sorted.now.cycle.now)) (pos begin) count }
     ensures selection { receiver.new.selection ≡ receiver.old.selection }
@@ -87,7 +85,6 @@ fn advance(receiver: &mut Eager, sorted: &Sorted<'_>, begin: u32, count: u32)
 
 // Gives the receiver `periods` periods of the cycle. Stops early once a period leaves the memory as it was.
 fn settle(receiver: &mut Eager, sorted: &Sorted<'_>, periods: u32, period: u32)
-    requires magazines { sorted.now.magazines.now ≡ map magazine_of (slots_of sorted.now.cycle.now) }
     requires period { period ≡ length (slots_of sorted.now.cycle.now) }
     requires small { periods * period < 2 ^ 32 }
     ensures memory { receiver.new.memory ≡ plain_from receiver.old.lines receiver.old.selection receiver.old.memory
@@ -148,8 +145,7 @@ fn is_under(mag: u8, slot: &[u8; 42]) -> bool
 
 // Whether the receiver takes anything from the slot at an index that it may show.
 fn takes_from(memory: &PageMemory, selection: &Selection, sorted: &Sorted<'_>, at: usize) -> bool
-    requires magazines { sorted.now.magazines.now ≡ map magazine_of (slots_of sorted.now.cycle.now) }
-    requires at { at < length (slots_of sorted.now.cycle.now) }
+    requires { at < length (slots_of sorted.now.cycle.now) }
     ensures { result ≡ takes_from selection.now (memory_of memory.now) (packet_of (slice_index_or (slots_of sorted.now.cycle.now) at [])) }
 {
     let mag = selected(selection);
@@ -169,8 +165,7 @@ fn first_wrong(
     low: u32,
     more: u32,
 ) -> Option<u32>
-    requires magazines { sorted.now.magazines.now ≡ map magazine_of (slots_of sorted.now.cycle.now) }
-    requires small { low + more < 2 ^ 32 - 1 }
+    requires { low + more < 2 ^ 32 - 1 }
     ensures { (p : definitions.Page) (former : Memory) → own.now ≡ view_of (memory_of_page p) →
         receiver.old.memory ≡ plain_from receiver.old.lines receiver.old.selection former (repeated (slots_of sorted.now.cycle.now)) (pos 0) low →
         TellsWrong (slots_of sorted.now.cycle.now) p receiver.old.lines receiver.old.selection former low (low + more) result }
@@ -202,8 +197,7 @@ pub fn plain_run(
     lines: u8,
     low: u32,
 ) -> Option<u32>
-    requires magazines { sorted.now.magazines.now ≡ map magazine_of (slots_of sorted.now.cycle.now) }
-    requires few { low ≤ 32000000 }
+    requires { low ≤ 32000000 }
     ensures { TellsWrong (slots_of sorted.now.cycle.now) (page_of page.now) lines selection (memory_of_page (page_of page.now)) low
         (low + 2 * length (slots_of sorted.now.cycle.now)) result }
 {

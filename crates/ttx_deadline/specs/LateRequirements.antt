@@ -5,7 +5,7 @@
 --   late_required_verdict   a verdict with what is required
 --   IsLateRequiredVerdict   the answer to a cycle, a service, a certificate and what is required
 --   IsShownWithin, MeansLateRequired        each receiver has the page after so many fields; what a yes means
-use Rattle.std.specs.Prelude.{◌≡◌, ℕ, ◌+◌, ◌/◌, ◌%◌, min, not, ◌==◌, nat_lt, List, Option, Some, None, if◌then◌else◌, ⊤, slice_get}
+use Rattle.std.specs.Prelude.{◌≡◌, ℕ, ◌+◌, ◌/◌, ◌%◌, min, List, Option, Some, None, ⊤, slice_get}
 use Rattle.ttx_page.specs.Pages.{Page}
 use Rattle.ttx_source.specs.Services.{ServiceFields, pages_of}
 use Rattle.ttx_certificate.specs.Entries.{CertificateFields, certificate_at}
@@ -16,11 +16,12 @@ use Rattle.ttx_late.specs.SeenLate.{SeenLate}
 use Rattle.ttx_late.specs.declared.verdict.LateVerdict.{LateVerdict}
 use Rattle.ttx_late.specs.declared.verdict.LateVerdict.TheVariants as late
 use Rattle.ttx_deadline.specs.Deadlines.{with_deadline}
-use Rattle.ttx_deadline.specs.declared.late_requirements.LateRequiredVerdict.{LateRequiredVerdict}
-use Rattle.ttx_deadline.specs.declared.late_requirements.LateRequiredVerdict.TheVariants.{Certified}
-use Rattle.ttx_deadline.specs.declared.late_requirements.LateRequiredVerdict.TheVariants as required
+use Rattle.ttx_deadline.specs.Requirements.{first_of}
+use Rattle.ttx_deadline.specs.declared.requirements.LateRequiredVerdict.{LateRequiredVerdict}
+use Rattle.ttx_deadline.specs.declared.requirements.LateRequiredVerdict.TheVariants.{Certified}
+use Rattle.ttx_deadline.specs.declared.requirements.LateRequiredVerdict.TheVariants as required
 use Rattle.ttx_deadline.specs.declared.requirements.Unmet.{Unmet}
-use Rattle.ttx_deadline.specs.declared.requirements.Unmet.TheVariants.{Lines, LateDeadline}
+use Rattle.ttx_deadline.specs.declared.requirements.Unmet.TheVariants.{LateDeadline}
 
 abbrev pub fields_up : ℕ → ℕ → ℕ
 fields_up slots lines = slots / lines + min 1 (slots % lines)
@@ -29,11 +30,8 @@ fields_up slots lines = slots / lines + min 1 (slots % lines)
 abbrev pub late_deadline : CertificateFields → ℕ → ℕ
 late_deadline w gap = w.deadline + fields_up gap w.lines
 
--- the lines of the service first, then so many fields
 abbrev pub first_late_unmet : ℕ → CertificateFields → ℕ → ℕ → Option Unmet
-first_late_unmet lines w gap fields =
-    if not (w.lines == lines) then Some (Lines w.lines lines)
-    else if nat_lt fields (late_deadline w gap) then Some (LateDeadline (late_deadline w gap) fields) else None
+first_late_unmet lines w gap fields = first_of lines w (late_deadline w gap) fields (LateDeadline (late_deadline w gap) fields)
 
 abbrev pub unless_unmet : LateVerdict → Option Unmet → LateRequiredVerdict
 unless_unmet verdict None = Certified verdict

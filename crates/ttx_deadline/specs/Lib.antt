@@ -3,6 +3,4 @@ pub mod Requirements
 pub mod RequiredLines
 pub mod RequiredFiles
 pub mod LateRequirements
-pub mod LateRequiredLines
-pub mod LateRequiredFiles
 pub mod FoundLaws

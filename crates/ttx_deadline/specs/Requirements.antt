@@ -1,6 +1,7 @@
 -- What a certificate has to promise for a service (profile).
 --
---   first_unmet, unmet_if   the first requirement that it doesn't meet; where something is required
+--   first_of                the first requirement that it doesn't meet: the lines of the service, then a deadline
+--   first_unmet, unmet_if   the same for its own deadline; where something is required
 --   required_verdict        a verdict with what is required
 --   IsRequiredVerdict       the answer to a cycle, a service, a certificate and what is required
 --   IsPromised, MeansRequired       the lines of the service, and a deadline in time; what a yes means
@@ -17,11 +18,13 @@ use Rattle.ttx_deadline.specs.declared.requirements.RequiredVerdict.TheVariants 
 use Rattle.ttx_deadline.specs.declared.requirements.Unmet.{Unmet}
 use Rattle.ttx_deadline.specs.declared.requirements.Unmet.TheVariants.{Lines, Deadline}
 
--- the lines of the service first, then a deadline of at most so many fields
+-- the lines of the service first, then a deadline of at most so many fields; a later one is missed
+abbrev pub first_of : ℕ → CertificateFields → ℕ → ℕ → Unmet → Option Unmet
+first_of lines w deadline fields missed =
+    if not (w.lines == lines) then Some (Lines w.lines lines) else if nat_lt fields deadline then Some missed else None
+
 abbrev pub first_unmet : ℕ → CertificateFields → ℕ → Option Unmet
-first_unmet lines w deadline =
-    if not (w.lines == lines) then Some (Lines w.lines lines)
-    else if nat_lt deadline w.deadline then Some (Deadline w.deadline deadline) else None
+first_unmet lines w deadline = first_of lines w w.deadline deadline (Deadline w.deadline deadline)
 
 abbrev pub unmet_if : ℕ → CertificateFields → Option ℕ → Option Unmet
 unmet_if lines w None = None

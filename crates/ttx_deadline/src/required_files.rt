@@ -1,32 +1,24 @@
 //! The verdict on files, with a deadline that is required.
 
-ghost use Rattle.std.specs.Prelude.{◌≡◌, IfOk, string_bytes};
-ghost use Rattle.ttx_certificate.specs.Certificates.{fields_of};
-ghost use Rattle.ttx_deadline.specs.RequiredLines.{required_line};
-ghost use Rattle.ttx_deadline.specs.RequiredFiles.{IsJudgedRequired};
+ghost use Rattle.ttx_deadline.specs.RequiredFiles.{IsJudgedRequired, IsJudgedLateRequired};
 
-use crate::required_lines::required_line;
-use crate::requirements::{RequiredVerdict, certify_required};
+use crate::required_lines::service_line;
+use crate::requirements::{
+    LateRequiredVerdict, RequiredVerdict, certify_late_required, certify_required,
+};
 use std::alloc::Global;
 use ttx_files::{Inputs, Judge, Told};
-use ttx_witness::{Certificate, NoMemory};
-
-// The line of a verdict on so many pages.
-fn line_of(
-    alloc: Global,
-    certificate: &Certificate,
-    pages: usize,
-    verdict: &RequiredVerdict,
-) -> Result<String, NoMemory>
-    ensures { IfOk result (λ line. string_bytes line ≡ required_line (fields_of certificate.now) pages verdict.now) }
-{
-    required_line(alloc, certificate, pages, *verdict)
-}
+use ttx_witness::NoMemory;
 
 /// Judges for receivers that show a page at once, with a deadline of at most so many fields where one is required. The line is that of the
 /// verdict of `certify_required`.
 #[derive(Drop)]
 pub struct Required(pub Option<u32>);
+
+/// Judges also for receivers that show a page late, with a deadline of at most so many fields. The line is that of the verdict of
+/// `certify_late_required`.
+#[derive(Drop)]
+pub struct LateRequired(pub u32);
 
 impl Judge for Required {
     type Verdict = RequiredVerdict;
@@ -35,13 +27,21 @@ impl Judge for Required {
 
     fn judge(&self, alloc: Global, inputs: &Inputs) -> Result<Told<RequiredVerdict>, NoMemory> {
         let (service, certificate) = (&inputs.service, &inputs.certificate);
-        let Ok(verdict) = certify_required(alloc, &inputs.cycle, service, certificate, self.0)
-        else {
-            return Err(NoMemory);
-        };
-        match line_of(alloc, certificate, service.pages().len(), &verdict) {
-            Ok(line) => Ok(Told { verdict, line }),
-            Err(_) => Err(NoMemory),
-        }
+        let verdict = certify_required(alloc, &inputs.cycle, service, certificate, self.0)?;
+        let line = service_line(alloc, service, certificate, &verdict)?;
+        Ok(Told { verdict, line })
+    }
+}
+
+impl Judge for LateRequired {
+    type Verdict = LateRequiredVerdict;
+
+    ghost says = { λ j slots service w. IsJudgedLateRequired slots service w j.0 };
+
+    fn judge(&self, alloc: Global, inputs: &Inputs) -> Result<Told<LateRequiredVerdict>, NoMemory> {
+        let (service, certificate) = (&inputs.service, &inputs.certificate);
+        let verdict = certify_late_required(alloc, &inputs.cycle, service, certificate, self.0)?;
+        let line = service_line(alloc, service, certificate, &verdict)?;
+        Ok(Told { verdict, line })
     }
 }

@@ -1,14 +1,17 @@
-//! What may be required of a certificate: the lines of the service, and a deadline.
+//! What may be required of a certificate: the lines of the service, and a deadline, for receivers that show pages at once, or also for
+//! those that show them late.
 
-ghost use Rattle.std.specs.Prelude.{◌≡◌, IfOk};
+ghost use Rattle.std.specs.Prelude.{◌≡◌, ◌≤◌, IfOk};
 ghost use Rattle.ttx_cycle.specs.Cycles.{slots_of};
 ghost use Rattle.ttx_source.specs.Services.{pages_of};
 ghost use Rattle.ttx_certificate.specs.Certificates.{fields_of};
 ghost use Rattle.ttx_deadline.specs.Requirements as rule;
+ghost use Rattle.ttx_deadline.specs.LateRequirements as late_rule;
 
 use std::alloc::Global;
 use ttx_certify::{Verdict, certify_service};
 use ttx_cycle::Cycle;
+use ttx_late::{LateVerdict, certify_late};
 use ttx_source::Service;
 use ttx_witness::{Certificate, NoMemory, Reason};
 
@@ -34,10 +37,25 @@ pub enum RequiredVerdict {
     Unmet(Unmet),
 }
 
-/// The first requirement that a certificate does not meet: the lines of the service, then a deadline of at most `required` fields. `None`
-/// if it meets both.
-pub fn first_unmet(service: &Service, certificate: &Certificate, required: u32) -> Option<Unmet>
-    ensures { result ≡ rule.first_unmet service.now.lines (fields_of certificate.now) required }
+/// The verdict on a certificate of which a deadline is required, for receivers that show pages at once and late.
+#[derive(Clone, Copy)]
+pub enum LateRequiredVerdict {
+    /// The verdict of the certifier. After a yes the certificate promises what is required.
+    Certified(LateVerdict),
+    /// The cycle is accepted and each page is followed, but the certificate doesn't promise this.
+    Unmet(Unmet),
+}
+
+// The first requirement that a certificate does not meet: the lines of the service, then a deadline of at most `required` fields. If the
+// deadline is later, it is `missed`.
+fn first_of(
+    service: &Service,
+    certificate: &Certificate,
+    deadline: u32,
+    required: u32,
+    missed: Unmet,
+) -> Option<Unmet>
+    ensures { result ≡ rule.first_of service.now.lines (fields_of certificate.now) deadline required missed }
 {
     let lines = service.lines();
     if certificate.lines() != lines {
@@ -46,13 +64,23 @@ pub fn first_unmet(service: &Service, certificate: &Certificate, required: u32) 
             service: lines,
         });
     }
-    if certificate.deadline() > required {
-        return Some(Unmet::Deadline {
-            certificate: certificate.deadline(),
-            required,
-        });
+    if deadline > required {
+        return Some(missed);
     }
     None
+}
+
+/// The first requirement that a certificate does not meet: the lines of the service, then a deadline of at most `required` fields. `None`
+/// if it meets both.
+pub fn first_unmet(service: &Service, certificate: &Certificate, required: u32) -> Option<Unmet>
+    ensures { result ≡ rule.first_unmet service.now.lines (fields_of certificate.now) required }
+{
+    let certified = certificate.deadline();
+    let missed = Unmet::Deadline {
+        certificate: certified,
+        required,
+    };
+    first_of(service, certificate, certified, required, missed)
 }
 
 // The same if something is required.
@@ -91,4 +119,74 @@ pub fn certify_required(
 {
     let verdict = certify_service(alloc, cycle, service, certificate)?;
     Ok(required_verdict(verdict, unmet_if(service, certificate, required)))
+}
+
+// The fields after which receivers that show pages late have each page: the deadline, and so many slots in whole fields, rounded up.
+fn late_deadline(certificate: &Certificate, gap: usize) -> u32
+    requires few { gap ≤ 65536 }
+    ensures { result ≡ late_rule.late_deadline (fields_of certificate.now) gap }
+{
+    ttx_witness::certificate_laws::certificates_keep_their_rules();
+    let lines = usize::from(certificate.lines());
+    certificate.deadline() + gap.div_ceil(lines) as u32
+}
+
+// The same for receivers that show pages late.
+fn first_late_unmet(
+    service: &Service,
+    certificate: &Certificate,
+    gap: usize,
+    required: u32,
+) -> Option<Unmet>
+    requires few { gap ≤ 65536 }
+    ensures { result ≡ late_rule.first_late_unmet service.now.lines (fields_of certificate.now) gap required }
+{
+    let certified = late_deadline(certificate, gap);
+    let missed = Unmet::LateDeadline {
+        certificate: certified,
+        required,
+    };
+    first_of(service, certificate, certified, required, missed)
+}
+
+// The verdict on a certificate with which each page is shown, so many slots after the deadline on receivers that show it late.
+fn shown_verdict(
+    service: &Service,
+    certificate: &Certificate,
+    gap: usize,
+    required: u32,
+) -> LateRequiredVerdict
+    requires few { gap ≤ 65536 }
+    ensures { result ≡ late_rule.late_required_verdict service.now.lines (fields_of certificate.now) required (LateVerdict.Yes gap) }
+{
+    match first_late_unmet(service, certificate, gap, required) {
+        Some(unmet) => LateRequiredVerdict::Unmet(unmet),
+        None => LateRequiredVerdict::Certified(LateVerdict::Yes { gap }),
+    }
+}
+
+/// The verdict of `certify_late` on the pages of a service, with a certificate that has to promise a deadline of at most `required` fields, also
+/// for receivers that show pages late. For a yes the certificate must have the lines of the service, and its deadline and the gap, in
+/// whole fields, rounded up, must be at most that many. So after a yes each receiver that is tuned to a page has it after `required` fields
+/// and ever after, whether it shows pages at once or late. `Err` if memory runs out.
+pub fn certify_late_required(
+    alloc: Global,
+    cycle: &Cycle,
+    service: &Service,
+    certificate: &Certificate,
+    required: u32,
+) -> Result<LateRequiredVerdict, NoMemory>
+    ensures exact { IfOk result (late_rule.IsLateRequiredVerdict (slots_of cycle.now) service.now (fields_of certificate.now) required) }
+    ensures means { IfOk result (late_rule.MeansLateRequired (slots_of cycle.now) service.now (fields_of certificate.now) required) }
+{
+    ttx_late::laws::followed_is_within();
+    ttx_witness::certificate_laws::certificates_keep_their_rules();
+    match certify_late(alloc, cycle, service, certificate)? {
+        LateVerdict::Yes { gap } => Ok(shown_verdict(service, certificate, gap, required)),
+        LateVerdict::No(reason) => Ok(LateRequiredVerdict::Certified(LateVerdict::No(reason))),
+        LateVerdict::NeverShown { page, slot } => {
+            let verdict = LateVerdict::NeverShown { page, slot };
+            Ok(LateRequiredVerdict::Certified(verdict))
+        }
+    }
 }

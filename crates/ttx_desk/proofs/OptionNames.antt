@@ -19,9 +19,6 @@ pub names-end : (c number : ℕ) (names : List (List ℕ)) → 7 ≤ number → 
 names-end c number names past =
     let none : 7 - number ≡ 0 = omega arith in ap (λ left. names ++ flat_map (name_if c) (range_with_len number left)) none ∙ append-nil names
 
-pub take-item : {A : Type 0} (xs : List A) (i : ℕ) (x : A) → i < length xs → x ≡ get_or xs i x → take (i + 1) xs ≡ take i xs ++ x ∷ []
-take-item xs i x inside is = take_more xs i x inside ∙ ap (λ y. take i xs ++ y ∷ []) (sym is)
-
 pub lines-more : (file text : List ℕ) (author : Members) (mistakes : List Mistake) (mistake : Mistake) (lines line : List ℕ)
     → AreMistakeLines file text author mistakes lines → IsMistakeLine file text author mistake line
     → AreMistakeLines file text author (mistakes ++ mistake ∷ []) (lines ++ line)

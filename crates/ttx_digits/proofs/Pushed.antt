@@ -1,6 +1,6 @@
 -- What calls append to a text, where each may run out of memory.
-use Rattle.std.proofs.Common.{◌≡◌, ℕ, ◌+◌, ◌<◌, ◌≤◌, Bool, true, false, List, [], ◌∷◌, ◌++◌, Result, Ok, Err, OnOk, is_ok, if◌then◌else◌, nat_lt}
-use Rattle.std.proofs.Common.{encode_utf8, append_assoc, ap, ap₂, sym, subst, ◌∙◌, arith}
+use Rattle.std.proofs.Common.{◌≡◌, ℕ, ◌+◌, ◌<◌, Bool, true, false, List, [], ◌∷◌, ◌++◌, Result, Ok, Err, OnOk, is_ok, if◌then◌else◌, nat_lt}
+use Rattle.std.proofs.Common.{encode_utf8, append_assoc, ap, sym, subst, ◌∙◌, arith}
 use Rattle.std.proofs.lemmas.Bool.{lt-ltb}
 use Rattle.ttx_digits.specs.Digits.{hex_digit}
 

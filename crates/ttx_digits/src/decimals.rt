@@ -1,18 +1,52 @@
 //! Decimal numbers.
 
-ghost use Rattle.std.specs.Prelude.{◌≡◌, ◌≤◌, ◌<◌, ◌+◌, ◌++◌, length, Some, None, if◌then◌else◌, IfSome, OnOk, string_bytes};
+ghost use Rattle.std.specs.Prelude.{ℕ, ◌≡◌, ◌≤◌, ◌<◌, ◌+◌, ◌*◌, ◌++◌, length, slice_range, Some, None, if◌then◌else◌, IfSome, OnOk, string_bytes};
 ghost use Rattle.std.specs.Fmt.{decimal};
+ghost use Rattle.std.specs.Str.{IsAscii};
 ghost use Rattle.ttx_digits.specs.Digits as rule;
 ghost use Rattle.ttx_digits.specs.Digits.{are_digits, decimal_after, number_in_word};
 
 use itoa::Buffer;
 use std::alloc::AllocError;
 
+// The numbers below 100, two digits each.
+fn pairs() -> &'static str
+    ensures length { length result.now ≡ 200 }
+    ensures ascii { IsAscii result.now }
+    ensures ones { (n : ℕ) → n < 10 → slice_range result.now (2 * n + 1) (2 * n + 2) ≡ decimal n }
+    ensures tens { (n : ℕ) → 10 ≤ n → n < 100 → slice_range result.now (2 * n) (2 * n + 2) ≡ decimal n }
+{
+    "00010203040506070809101112131415161718192021222324252627282930313233343536373839404142434445464748495051525354555657585960616263646566676869707172737475767778798081828384858687888990919293949596979899"
+}
+
+// The digit of a number below 10.
+fn one_digit(number: usize) -> &'static str
+    requires { number < 10 }
+    ensures { result.now ≡ decimal number }
+{
+    &pairs()[2 * number + 1..2 * number + 2]
+}
+
+// The digits of a number from 10 to 99.
+fn two_digits(number: usize) -> &'static str
+    requires low { 10 ≤ number }
+    requires high { number < 100 }
+    ensures { result.now ≡ decimal number }
+{
+    &pairs()[2 * number..2 * number + 2]
+}
+
 /// Appends a number in decimal digits. `Err` if memory runs out.
 pub fn push_decimal(text: &mut String, number: usize) -> Result<(), AllocError>
     ensures { OnOk result (string_bytes text.new ≡ string_bytes text.old ++ decimal number) }
 {
-    text.push_str(Buffer::new().format(number))
+    if number < 10 {
+        text.push_str(one_digit(number))
+    } else if number < 100 {
+        text.push_str(two_digits(number))
+    } else {
+        text.push_str(Buffer::new().format(number))
+    }
 }
 
 /// Appends a number below 10 as one digit. `Err` if memory runs out.

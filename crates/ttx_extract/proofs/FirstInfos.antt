@@ -41,10 +41,6 @@ none_more slots i before is n lt = elim (cases_lt n i) as (λ _. slot_info (get_
   | inr ge ↦ let same : n ≡ i = omega arith in ap (λ m. slot_info (get_or slots m [])) same ∙ is
 ]
 
-pub info_told : (slots : List (List ℕ)) (o : Option FoundInfo) → TellsInfo slots o → option_map (λ f. f.info) o ≡ first_info slots
-info_told slots None told = sym told
-info_told slots (Some found) told = sym told.0
-
 -- where what was found has no minus zero, the first packet 8/30 has none
 pub offset_told : (slots : List (List ℕ)) (o : Option FoundInfo) → TellsInfo slots o → ((slot : ℕ) → MinusZero o slot → ⊥) → HasOffset slots
 offset_told slots None told none = λ fields first halves west. absurd (let h : None ≡ Some fields = sym told ∙ first in cc)

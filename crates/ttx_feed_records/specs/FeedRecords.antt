@@ -3,11 +3,11 @@
 --   line                    the line of an object
 --   unlike_members          a feed that is no sequence of slots: the form of its packets, and what to leave out of each
 --   rest_members            the bytes behind the last slot, if there are any
---   yes_members             a yes
+--   yes_members             a yes, and what is counted besides its slots
 --   item_name               a row, 0 for the header
 --   at_slot                 a slot that breaks the rule, and how
 --   row_members             a row of a page
---   far_byte, repeated, repeated_row        a byte with two wrong bits; a byte, or a row, that was wrong too often
+--   repeated, repeated_row  a byte, or a row, that was wrong too often
 --   how_members             a breach
 --   with_start              the slot of the cycle with which the feed begins, last, if it is told
 --   shift_member, shifted_members   a slip: how many slots were lost or inserted, whichever are less
@@ -52,10 +52,8 @@ abbrev pub rest_members : ℕ → List Member
 rest_members zero = []
 rest_members (suc n) = count (codes "rest") (suc n) ∷ []
 
-abbrev pub yes_members : ℕ → ℕ → ℕ → ℕ → List Member
-yes_members start slots wrong streak =
-    word (codes "answer") (codes "yes") ∷ count (codes "start") start ∷ count (codes "slots") slots ∷ count (codes "wrong") wrong
-    ∷ count (codes "streak") streak ∷ []
+abbrev pub yes_members : ℕ → ℕ → List Member → List Member
+yes_members start slots counts = word (codes "answer") (codes "yes") ∷ count (codes "start") start ∷ count (codes "slots") slots ∷ counts
 
 unfoldable pub item_name : ℕ → List ℕ
 item_name zero = codes "head"
@@ -67,10 +65,6 @@ at_slot slot how members = no (count (codes "slot") slot ∷ word (codes "how") 
 abbrev pub row_members : List Page → ℕ → ℕ → List Member
 row_members pages page row = word (codes "page") (page_text pages page) ∷ word (codes "item") (item_name row) ∷ []
 
--- a byte with two wrong bits or more
-abbrev pub far_byte : ℕ → ℕ → List Member
-far_byte slot x = at_slot slot (codes "byte") (count (codes "byte") x ∷ [])
-
 -- a byte, and a row, that was wrong too often
 abbrev pub repeated : List Page → ℕ → TextByte → List Member
 repeated pages slot t = at_slot slot (codes "repeat") (row_members pages t.page t.row ++ count (codes "byte") t.byte ∷ [])
@@ -81,7 +75,7 @@ repeated_row pages slot page row = at_slot slot (codes "repeat") (row_members pa
 abbrev pub how_members : List Page → ℕ → Breach → List Member
 how_members pages slot Unasked = at_slot slot (codes "unlike") []
 how_members pages slot Lost = at_slot slot (codes "lost") []
-how_members pages slot (Bits x) = far_byte slot x
+how_members pages slot (Bits x) = at_slot slot (codes "byte") (count (codes "byte") x ∷ [])
 how_members pages slot (Repeated t) = repeated pages slot t
 
 abbrev pub with_start : List Member → Option ℕ → List Member
@@ -96,7 +90,8 @@ shifted_members slots slot by = at_slot slot (codes "shifted") (shift_member slo
 
 abbrev pub feed_record : List Page → FeedVerdict → List ℕ
 feed_record pages (IsUnlike unlike) = line (unlike_members unlike)
-feed_record pages (Yes start slots wrong streak rest) = line (yes_members start slots wrong streak ++ rest_members rest)
+feed_record pages (Yes start slots wrong streak rest) =
+    line (yes_members start slots (count (codes "wrong") wrong ∷ count (codes "streak") streak ∷ []) ++ rest_members rest)
 feed_record pages (No start slot breach) = line (with_start (how_members pages slot breach) (Some start))
 feed_record pages (Shifted start slot by slots) = line (with_start (shifted_members slots slot by) (Some start))
 

@@ -7,44 +7,18 @@ ghost use Rattle.ttx_files.specs.Devices.{AtFeed, input, IsFirstFailure};
 ghost use Rattle.ttx_files.specs.Feeds.{failed_at};
 ghost use Rattle.ttx_page.specs.Views.{page_of};
 ghost use Rattle.ttx_source.specs.Services.{pages_of};
-ghost use Rattle.ttx_witness.specs.Certificates.{certificate_of};
+ghost use Rattle.ttx_certificate.specs.Certificates.{certificate_of};
 ghost use Rattle.ttx_feed_records.specs.FeedRecords as rule;
 
-use crate::breaches::{At, push_breach};
-use crate::members::{Slip, push_shifted, push_unlike, push_with_rest};
+use crate::breaches::push_breach;
+use crate::members::{At, Whole, push_shifted, push_unlike, push_yes};
 use std::alloc::{AllocError, Global};
 use std::io::Read;
 use ttx_cycle::Counted;
 use ttx_files::{FeedFault, Inputs, Told};
-use ttx_json::{count, word};
+use ttx_json::count;
 use ttx_monitor::{FeedVerdict, monitor_feed};
 use ttx_page::Page;
-
-/// What a feed has that is within the rule.
-#[derive(Clone, Copy)]
-struct Whole {
-    start: u32,
-    slots: u64,
-    wrong: u64,
-    streak: u8,
-    rest: usize,
-}
-
-// Adds a yes.
-#[tactic(auto, unfolding(crate::specs::FeedRecords::line))]
-fn push_yes(alloc: Global, text: &mut String, whole: Whole) -> Result<(), AllocError>
-    ensures { OnOk result (string_bytes text.new ≡ string_bytes text.old
-        ++ rule.line (rule.yes_members whole.start whole.slots whole.wrong whole.streak ++ rule.rest_members whole.rest)) }
-{
-    let members = [
-        word("answer", "yes"),
-        count("start", u64::from(whole.start)),
-        count("slots", whole.slots),
-        count("wrong", whole.wrong),
-        count("streak", u64::from(whole.streak)),
-    ];
-    push_with_rest(alloc, text, &members, whole.rest)
-}
 
 /// Adds a verdict.
 pub fn push_verdict(
@@ -63,46 +37,21 @@ pub fn push_verdict(
             wrong,
             streak,
             rest,
-        } => push_yes(
-            alloc,
-            text,
-            Whole {
-                start,
-                slots,
-                wrong,
-                streak,
-                rest,
-            },
-        ),
+        } => {
+            let counts = [count("wrong", wrong), count("streak", u64::from(streak))];
+            push_yes(alloc, text, Whole { start, slots, rest }, &counts)
+        }
         FeedVerdict::No {
             start,
             slot,
             breach,
-        } => push_breach(
-            alloc,
-            text,
-            pages,
-            At {
-                slot,
-                start: Some(start),
-            },
-            breach,
-        ),
+        } => push_breach(alloc, text, pages, At(slot, Some(start)), breach),
         FeedVerdict::Shifted {
             start,
             slot,
             by,
             count,
-        } => push_shifted(
-            alloc,
-            text,
-            Slip {
-                slots: count,
-                slot,
-                by,
-            },
-            Some(start),
-        ),
+        } => push_shifted(alloc, text, At(slot, Some(start)), by, count),
     }
 }
 

@@ -33,11 +33,8 @@ fn push_form(alloc: Global, text: &mut String, form: Form) -> Result<(), AllocEr
 fn push_no_teletext(alloc: Global, text: &mut String) -> Result<(), AllocError>
     ensures { OnOk result (string_bytes text.new ≡ string_bytes text.old ++ rule.line rule.no_teletext) }
 {
-    push_object(
-        alloc,
-        text,
-        &[word("answer", "no"), word("how", "no teletext")],
-    )
+    let members = [word("answer", "no"), word("how", "no teletext")];
+    push_object(alloc, text, &members)
 }
 
 /// Adds what a feed is that is no sequence of slots.
@@ -48,6 +45,20 @@ pub fn push_unlike(alloc: Global, text: &mut String, unlike: Unlike) -> Result<(
         Unlike::Form(form) => push_form(alloc, text, form),
         Unlike::NoTeletext => push_no_teletext(alloc, text),
     }
+}
+
+// Some members, and others behind them.
+fn joined<'a>(
+    alloc: Global,
+    first: &[Member<'a>],
+    last: &[Member<'a>],
+) -> Result<Vec<Member<'a>>, AllocError>
+    ensures { IfOk result (λ members. map member_of members.items ≡ map member_of first.now ++ map member_of last.now) }
+{
+    let mut members = Vec::new(alloc);
+    members.extend_from_slice(first)?;
+    members.extend_from_slice(last)?;
+    Ok(members)
 }
 
 /// Adds an object with these members and the bytes behind the last slot, if there are any.
@@ -64,17 +75,46 @@ pub fn push_with_rest(
     match rest {
         0 => push_object(alloc, text, first),
         _ => {
-            let mut members = Vec::new(alloc);
-            members.extend_from_slice(first)?;
-            members.push(count("rest", rest as u64))?;
+            let members = joined(alloc, first, &[count("rest", rest as u64)])?;
             push_object(alloc, text, members.as_slice())
         }
     }
 }
 
-/// Adds an object with these members and the slot of the cycle with which the feed begins, if it is told.
+/// A feed that is within the rule: the slot of the cycle with which it begins, its slots, and the bytes behind the last one.
+#[derive(Clone, Copy)]
+pub struct Whole {
+    pub start: u32,
+    pub slots: u64,
+    pub rest: usize,
+}
+
+/// Adds a yes with these counts.
+pub fn push_yes(
+    alloc: Global,
+    text: &mut String,
+    whole: Whole,
+    counts: &[Member],
+) -> Result<(), AllocError>
+    ensures { OnOk result (string_bytes text.new ≡ string_bytes text.old
+        ++ rule.line (rule.yes_members whole.start whole.slots (map member_of counts.now) ++ rule.rest_members whole.rest)) }
+{
+    let first = [
+        word("answer", "yes"),
+        count("start", u64::from(whole.start)),
+        count("slots", whole.slots),
+    ];
+    let members = joined(alloc, &first, counts)?;
+    push_with_rest(alloc, text, members.as_slice(), whole.rest)
+}
+
+/// A slot of a feed, and the slot of the cycle with which the feed begins, if that is told.
+#[derive(Clone, Copy)]
+pub struct At(pub u64, pub Option<u32>);
+
+// Adds an object with these members and the slot of the cycle with which the feed begins, if it is told.
 #[tactic(auto, unfolding(crate::specs::FeedRecords::line))]
-pub fn push_with_start(
+fn push_with_start(
     alloc: Global,
     text: &mut String,
     first: &[Member],
@@ -86,12 +126,26 @@ pub fn push_with_start(
     match start {
         None => push_object(alloc, text, first),
         Some(start) => {
-            let mut members = Vec::new(alloc);
-            members.extend_from_slice(first)?;
-            members.push(count("start", u64::from(start)))?;
+            let members = joined(alloc, first, &[count("start", u64::from(start))])?;
             push_object(alloc, text, members.as_slice())
         }
     }
+}
+
+/// Adds a slot that breaks the rule, how, and further members.
+pub fn push_at_slot(
+    alloc: Global,
+    text: &mut String,
+    at: At,
+    how: &'static str,
+    further: &[Member],
+) -> Result<(), AllocError>
+    ensures { OnOk result (string_bytes text.new ≡ string_bytes text.old
+        ++ rule.line (rule.with_start (rule.at_slot at.0 how.now (map member_of further.now)) at.1)) }
+{
+    let first = [word("answer", "no"), count("slot", at.0), word("how", how)];
+    let members = joined(alloc, &first, further)?;
+    push_with_start(alloc, text, members.as_slice(), at.1)
 }
 
 /// The id of a page of the list.
@@ -128,30 +182,16 @@ fn shift_member(slots: usize, by: usize) -> Member<'static>
     }
 }
 
-/// A slip, by so many slots of a cycle.
-#[derive(Clone, Copy)]
-pub struct Slip {
-    pub slots: usize,
-    pub slot: u64,
-    pub by: usize,
-}
-
-/// Adds where a feed has slipped that begins with slot `start` of the cycle, if that is told.
+/// Adds where a feed has slipped, by so many slots of a cycle of so many.
 pub fn push_shifted(
     alloc: Global,
     text: &mut String,
-    slip: Slip,
-    start: Option<u32>,
+    at: At,
+    by: usize,
+    slots: usize,
 ) -> Result<(), AllocError>
     ensures { OnOk result (string_bytes text.new ≡ string_bytes text.old
-        ++ rule.line (rule.with_start (rule.shifted_members slip.slots slip.slot slip.by) start)) }
+        ++ rule.line (rule.with_start (rule.shifted_members slots at.0 by) at.1)) }
 {
-    let shift = shift_member(slip.slots, slip.by);
-    let members = [
-        word("answer", "no"),
-        count("slot", slip.slot),
-        word("how", "shifted"),
-        shift,
-    ];
-    push_with_start(alloc, text, &members, start)
+    push_at_slot(alloc, text, at, "shifted", &[shift_member(slots, by)])
 }

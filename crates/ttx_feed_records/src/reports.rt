@@ -1,19 +1,17 @@
 //! Reports a feed while it comes, as objects.
 
-ghost use Rattle.std.specs.Prelude.{◌≡◌, ◌++◌, OnOk, IfSome, map, string_bytes};
-ghost use Rattle.ttx_page.specs.Views.{page_of};
+ghost use Rattle.std.specs.Prelude.{IfSome};
 ghost use Rattle.ttx_cycle.specs.Counters.{inner_of, faults_of};
 ghost use Rattle.ttx_cycle.specs.Cycles.{slots_of};
 ghost use Rattle.ttx_source.specs.Services.{pages_of};
-ghost use Rattle.ttx_witness.specs.Certificates.{certificate_of};
+ghost use Rattle.ttx_certificate.specs.Certificates.{certificate_of};
 ghost use Rattle.ttx_monitor.specs.Followed.{CountsFollowed, CountsWrites};
 ghost use Rattle.ttx_monitor.specs.FeedReports.{ReportsFeed};
-ghost use Rattle.ttx_feed_records.specs.FeedRecords.{line, rest_members};
 ghost use Rattle.ttx_feed_records.specs.ReportRecords as rule;
 
-use crate::breaches::{At, push_breach};
+use crate::breaches::push_breach;
 use crate::feeds::push_verdict;
-use crate::members::{Slip, push_shifted, push_with_rest};
+use crate::members::{At, push_shifted, push_with_rest};
 use std::alloc::{AllocError, Global};
 use std::io::{Read, Write};
 use ttx_cycle::Counted;
@@ -21,58 +19,6 @@ use ttx_files::Inputs;
 use ttx_json::{count, push_object, word};
 use ttx_monitor::{Asked, Breach, FeedVerdict, FollowFault, Sums, Tally, Wording, report_feed_in};
 use ttx_page::Page;
-
-// Adds what has been counted so far.
-#[tactic(auto, unfolding(crate::specs::FeedRecords::line))]
-fn push_state(alloc: Global, text: &mut String, tally: Tally) -> Result<(), AllocError>
-    ensures { OnOk result (string_bytes text.new ≡ string_bytes text.old ++ line (rule.state_members tally)) }
-{
-    let members = [
-        word("answer", "state"),
-        count("slots", tally.slots),
-        count("wrong", tally.wrong),
-        count("streak", u64::from(tally.streak)),
-        count("lost", tally.lost),
-    ];
-    push_object(alloc, text, &members)
-}
-
-// Adds what was counted of a feed whose breaches were passed over.
-fn push_broken(
-    alloc: Global,
-    text: &mut String,
-    start: u32,
-    tally: Tally,
-    rest: usize,
-) -> Result<(), AllocError>
-    ensures { OnOk result (string_bytes text.new ≡ string_bytes text.old
-        ++ line (rule.broken_members start tally ++ rest_members rest)) }
-{
-    let members = [
-        word("answer", "no"),
-        count("start", u64::from(start)),
-        count("slots", tally.slots),
-        count("wrong", tally.wrong),
-        count("streak", u64::from(tally.streak)),
-        count("breaches", tally.breaches),
-    ];
-    push_with_rest(alloc, text, &members, rest)
-}
-
-// Adds what was lost and wrong.
-#[tactic(auto, unfolding(crate::specs::FeedRecords::line))]
-fn push_total(alloc: Global, text: &mut String, sums: Sums) -> Result<(), AllocError>
-    ensures { OnOk result (string_bytes text.new ≡ string_bytes text.old ++ line (rule.total_members sums)) }
-{
-    let members = [
-        word("answer", "total"),
-        count("lost", sums.lost),
-        count("bits", sums.bits),
-        count("minute_lost", sums.minute_lost),
-        count("minute_bits", sums.minute_bits),
-    ];
-    push_object(alloc, text, &members)
-}
 
 /// Words a report as JSON objects, one a line: a verdict as `monitor_feed_json`, a breach or a slip as such a no without `start`; `answer`
 /// (`state`), `slots`, `wrong`, `streak`, `lost`; where breaches were passed over, `answer` (`no`), `start`, `slots`, `wrong`, `streak`,
@@ -90,16 +36,7 @@ impl Wording for Objects {
         slot: u64,
         by: usize,
     ) -> Result<(), AllocError> {
-        push_shifted(
-            alloc,
-            text,
-            Slip {
-                slots: count,
-                slot,
-                by,
-            },
-            None,
-        )
+        push_shifted(alloc, text, At(slot, None), by, count)
     }
 
     fn push_breach(
@@ -109,11 +46,19 @@ impl Wording for Objects {
         slot: u64,
         breach: Breach,
     ) -> Result<(), AllocError> {
-        push_breach(alloc, text, pages, At { slot, start: None }, breach)
+        push_breach(alloc, text, pages, At(slot, None), breach)
     }
 
+    #[tactic(auto, unfolding(crate::specs::FeedRecords::line))]
     fn push_state(alloc: Global, text: &mut String, tally: Tally) -> Result<(), AllocError> {
-        push_state(alloc, text, tally)
+        let members = [
+            word("answer", "state"),
+            count("slots", tally.slots),
+            count("wrong", tally.wrong),
+            count("streak", u64::from(tally.streak)),
+            count("lost", tally.lost),
+        ];
+        push_object(alloc, text, &members)
     }
 
     fn push_verdict(
@@ -132,11 +77,27 @@ impl Wording for Objects {
         tally: Tally,
         rest: usize,
     ) -> Result<(), AllocError> {
-        push_broken(alloc, text, start, tally, rest)
+        let members = [
+            word("answer", "no"),
+            count("start", u64::from(start)),
+            count("slots", tally.slots),
+            count("wrong", tally.wrong),
+            count("streak", u64::from(tally.streak)),
+            count("breaches", tally.breaches),
+        ];
+        push_with_rest(alloc, text, &members, rest)
     }
 
+    #[tactic(auto, unfolding(crate::specs::FeedRecords::line))]
     fn push_sums(alloc: Global, text: &mut String, sums: Sums) -> Result<(), AllocError> {
-        push_total(alloc, text, sums)
+        let members = [
+            word("answer", "total"),
+            count("lost", sums.lost),
+            count("bits", sums.bits),
+            count("minute_lost", sums.minute_lost),
+            count("minute_bits", sums.minute_bits),
+        ];
+        push_object(alloc, text, &members)
     }
 }
 

@@ -7,43 +7,19 @@ ghost use Rattle.ttx_files.specs.Devices.{AtFeed, input, IsFirstFailure};
 ghost use Rattle.ttx_files.specs.Feeds.{failed_at};
 ghost use Rattle.ttx_page.specs.Views.{page_of};
 ghost use Rattle.ttx_source.specs.Services.{pages_of};
-ghost use Rattle.ttx_witness.specs.Certificates.{certificate_of};
+ghost use Rattle.ttx_certificate.specs.Certificates.{certificate_of};
 ghost use Rattle.ttx_feed_records.specs.FeedRecords as feed;
 ghost use Rattle.ttx_feed_records.specs.RowRecords as rule;
 
-use crate::breaches::{At, push_breach, push_row};
-use crate::members::{Slip, push_shifted, push_unlike, push_with_rest};
+use crate::breaches::{push_breach, push_row};
+use crate::members::{At, Whole, push_shifted, push_unlike, push_yes};
 use std::alloc::{AllocError, Global};
 use std::io::Read;
 use ttx_cycle::Counted;
 use ttx_files::{FeedFault, Inputs, Told};
-use ttx_json::{count, word};
+use ttx_json::count;
 use ttx_page::Page;
 use ttx_row_monitor::{RowBreach, RowVerdict, monitor_rows};
-
-/// What a feed has that is within the rule.
-#[derive(Clone, Copy)]
-struct Whole {
-    start: u32,
-    slots: u64,
-    lost: u64,
-    rest: usize,
-}
-
-// Adds a yes.
-#[tactic(auto, unfolding(crate::specs::FeedRecords::line))]
-fn push_yes(alloc: Global, text: &mut String, whole: Whole) -> Result<(), AllocError>
-    ensures { OnOk result (string_bytes text.new ≡ string_bytes text.old
-        ++ feed.line (rule.yes_members whole.start whole.slots whole.lost ++ feed.rest_members whole.rest)) }
-{
-    let members = [
-        word("answer", "yes"),
-        count("start", u64::from(whole.start)),
-        count("slots", whole.slots),
-        count("lost", whole.lost),
-    ];
-    push_with_rest(alloc, text, &members, whole.rest)
-}
 
 // Adds a slot that breaks the rule.
 fn push_row_breach(
@@ -54,7 +30,7 @@ fn push_row_breach(
     breach: RowBreach,
 ) -> Result<(), AllocError>
     ensures { OnOk result (string_bytes text.new ≡ string_bytes text.old
-        ++ feed.line (feed.with_start (rule.how_members (map page_of pages.now) at.slot breach) at.start)) }
+        ++ feed.line (feed.with_start (rule.how_members (map page_of pages.now) at.0 breach) at.1)) }
 {
     match breach {
         RowBreach::Slot(breach) => push_breach(alloc, text, pages, at, breach),
@@ -78,45 +54,21 @@ fn push_verdict(
             slots,
             lost,
             rest,
-        } => push_yes(
-            alloc,
-            text,
-            Whole {
-                start,
-                slots,
-                lost,
-                rest,
-            },
-        ),
+        } => {
+            let counts = [count("lost", lost)];
+            push_yes(alloc, text, Whole { start, slots, rest }, &counts)
+        }
         RowVerdict::No {
             start,
             slot,
             breach,
-        } => push_row_breach(
-            alloc,
-            text,
-            pages,
-            At {
-                slot,
-                start: Some(start),
-            },
-            breach,
-        ),
+        } => push_row_breach(alloc, text, pages, At(slot, Some(start)), breach),
         RowVerdict::Shifted {
             start,
             slot,
             by,
             count,
-        } => push_shifted(
-            alloc,
-            text,
-            Slip {
-                slots: count,
-                slot,
-                by,
-            },
-            Some(start),
-        ),
+        } => push_shifted(alloc, text, At(slot, Some(start)), by, count),
     }
 }
 

@@ -6,7 +6,6 @@ use Rattle.ttx_code.specs.Words.{Near}
 use Rattle.ttx_packet.specs.Slots.{IsSlot, Kind, IsEmpty, IsHeader, is_empty, kind_of, is_clean}
 use Rattle.ttx_packet.specs.Receptions.{IsFree, MayBeReceivedAs}
 use Rattle.ttx_packet.specs.Laws.{KindIsKept}
-use Rattle.ttx_header.specs.Headers.{id_of, control_of}
 use Rattle.ttx_header.specs.Laws.{HeaderIsKept}
 use Rattle.ttx_page.specs.Packets.{Packet, Empty, Header, Other, packet_of, packet_of_kind}
 use Rattle.ttx_page.specs.declared.selection.Selection.{Selection}
@@ -18,14 +17,13 @@ abbrev pub outline : Packet → Packet
 outline (Header id control text) = Header id control []
 outline x = Other
 
-packet_is : (slot : List ℕ) → packet_of slot ≡ packet_of_kind slot (kind_of slot)
+pub packet_is : (slot : List ℕ) (k : Kind) → kind_of slot ≡ k → packet_of slot ≡ packet_of_kind slot k
 unfolding packet_of
-packet_is slot = refl
+packet_is slot k e = ap (packet_of_kind slot) e
 
 pub packet_empty : (slot : List ℕ) → is_empty slot ≡ true → packet_of slot ≡ Empty
 unfolding kind_of
-packet_empty slot e =
-    packet_is slot ∙ ap (packet_of_kind slot) (cond_both (is_empty slot) IsEmpty _ (λ k. k ≡ IsEmpty) (λ _. refl) (λ f. absurd (both_ways _ f e)))
+packet_empty slot e = packet_is slot IsEmpty (cond_both (is_empty slot) IsEmpty _ (λ k. k ≡ IsEmpty) (λ _. refl) (λ f. absurd (both_ways _ f e)))
 
 -- bytes 0 to 9 of a header are not free
 near_header : (sent received : List ℕ) (mag : ℕ) → kind_of sent ≡ IsHeader mag → MayBeReceivedAs sent received → (x : ℕ) → x < 10 →
@@ -38,35 +36,29 @@ pub received_as : KindIsKept → HeaderIsKept → (sent received : List ℕ) →
     outline (packet_of received) ≡ outline (packet_of sent)
 received_as kind header sent received s clean h =
     elim (cases_Bool (is_empty sent)) as (λ _. outline (packet_of received) ≡ outline (packet_of sent)) [
-      | inl e ↦ ap outline (packet_empty received (h.empty e)) ∙ ap outline (sym (packet_empty sent e))
+      | inl e ↦ cc (packet_empty received (h.empty e), packet_empty sent e)
       | inr e ↦ elim (kind sent received s clean e h) as (λ _. outline (packet_of received) ≡ outline (packet_of sent)) [
-        | inl same ↦ ap outline (packet_is received) ∙ ap (λ k. outline (packet_of_kind received k)) same ∙ same_outline (kind_of sent) refl
-            ∙ ap outline (sym (packet_is sent))
-        | inr lost ↦ ap outline (packet_empty received lost.1) ∙ ap outline (sym (packet_is sent ∙ ap (packet_of_kind sent) lost.0))
+        | inl same ↦ ap outline (packet_is received (kind_of sent) same) ∙ same_outline (kind_of sent) refl
+            ∙ ap outline (sym (packet_is sent (kind_of sent) refl))
+        | inr lost ↦ cc (packet_empty received lost.1, packet_is sent _ lost.0)
       ]
     ]
   where
     same_outline : (k : Kind) → kind_of sent ≡ k → outline (packet_of_kind received k) ≡ outline (packet_of_kind sent k)
-    same_outline (IsHeader mag) e =
-        let kept = header sent received mag s h.slot clean e (near_header sent received mag e h) in
-        ap (λ id. Header id (control_of received) []) kept.0 ∙ ap (λ control. Header (id_of sent) control []) kept.1
+    same_outline (IsHeader mag) e = let kept = header sent received mag s h.slot clean e (near_header sent received mag e h) in cc
     same_outline k e = refl
 
-matched_outline : (sel : Selection) (pkt : Packet) → heads_matched sel (outline pkt) ≡ heads_matched sel pkt
-matched_outline sel (Header id control text) = refl
-matched_outline sel x = refl
+heads_alike : (mag : ℕ) (p q : Packet) → outline p ≡ outline q → heads mag p ≡ heads mag q
+heads_alike mag p q e = grind arith
 
-heads_outline : (mag : ℕ) (pkt : Packet) → heads mag (outline pkt) ≡ heads mag pkt
-heads_outline mag (Header id control text) = refl
-heads_outline mag x = refl
+matched_alike : (sel : Selection) (p q : Packet) → outline p ≡ outline q → heads_matched sel p ≡ heads_matched sel q
+matched_alike sel p q e = grind arith
 
-number_outline : (sel : Selection) (pkt : Packet) → heads_number sel (outline pkt) ≡ heads_number sel pkt
-number_outline sel (Header id control text) = refl
-number_outline sel x = refl
+number_alike : (sel : Selection) (p q : Packet) → outline p ≡ outline q → heads_number sel p ≡ heads_number sel q
+number_alike sel p q e = grind arith
 
-ends_outline : (mag : ℕ) (pkt : Packet) → ends_serial mag (outline pkt) ≡ ends_serial mag pkt
-ends_outline mag (Header id control text) = refl
-ends_outline mag x = refl
+ends_alike : (mag : ℕ) (p q : Packet) → outline p ≡ outline q → ends_serial mag p ≡ ends_serial mag q
+ends_alike mag p q e = grind arith
 
 -- what is received passes the same tests as what was sent
 pub record SameTests (sent received : List ℕ) : Type 0 where
@@ -80,8 +72,8 @@ pub same_tests : KindIsKept → HeaderIsKept → (sent received : List ℕ) → 
 same_tests kind header sent received s clean h =
     let e = received_as kind header sent received s clean h in
     record {
-      heads = λ mag. sym (heads_outline mag (packet_of received)) ∙ ap (heads mag) e ∙ heads_outline mag (packet_of sent);
-      matched = λ sel. sym (matched_outline sel (packet_of received)) ∙ ap (heads_matched sel) e ∙ matched_outline sel (packet_of sent);
-      number = λ sel. sym (number_outline sel (packet_of received)) ∙ ap (heads_number sel) e ∙ number_outline sel (packet_of sent);
-      ends = λ mag. sym (ends_outline mag (packet_of received)) ∙ ap (ends_serial mag) e ∙ ends_outline mag (packet_of sent);
+      heads = λ mag. heads_alike mag _ _ e;
+      matched = λ sel. matched_alike sel _ _ e;
+      number = λ sel. number_alike sel _ _ e;
+      ends = λ mag. ends_alike mag _ _ e;
     }

@@ -1,6 +1,7 @@
 pub mod KeptSlots
 pub mod StoringSteps
 pub mod GatheredMemories
+mod UnderHeaders
 mod ShownIsGathered
 pub mod FollowedReceptions
 pub mod RunsAreShown

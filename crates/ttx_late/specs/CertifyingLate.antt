@@ -4,7 +4,7 @@
 --   IsJudgedLate            the verdict on what was read, with its line
 use Rattle.std.specs.Prelude.{◌≡◌, ℕ, List, length}
 use Rattle.ttx_source.specs.Services.{ServiceFields, pages_of}
-use Rattle.ttx_witness.specs.Entries.{CertificateFields, certificate_at}
+use Rattle.ttx_certificate.specs.Entries.{CertificateFields, certificate_at}
 use Rattle.ttx_files.specs.Judging.{IsJudged}
 use Rattle.ttx_late.specs.LateVerdicts.{IsLateVerdict, MeansLate}
 use Rattle.ttx_late.specs.LateVerdictLines.{late_verdict_line}

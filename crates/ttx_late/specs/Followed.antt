@@ -1,6 +1,7 @@
 -- Which pages of a cycle are followed by another page number, and how soon.
 --
---   HoldsId, HoldsNoId      the id in a packet, if it is a page header
+--   id_in                   the id in a packet, if it is a page header
+--   HeadsAt                 a slot is a header of the page
 --   IsFollowedAt            a header of the page, if the slot is one, is followed by another page number
 --   IsUnfollowedAt          a header of the page after which the next one of its magazine has the page's own number
 --   IsFollowedIn            the next header of the magazine has another page number, and comes a given number of slots later
@@ -8,7 +9,7 @@
 --   TellsUnfollowed         the page whose header is in a slot, if it is not followed
 --   AllAreFollowed          each page of a list is followed by another page number
 --   AreFollowedWithin, IsGreatestGap        each, at most a given number of slots later; the most slots for all pages
---   IsWidened               the same for the headers at one slot
+--   IsListed, IsWidened     an id is that of a listed page; the most slots from the headers of some pages at one slot
 --   IsFirstUnshown          the first slot at which a page is not followed, with the page's index in the list
 use Rattle.std.specs.Prelude.{◌+◌, ◌≤◌, ◌≡◌, ◌⊎◌, ℕ, ◌<◌, pos, ◌≤ℤ◌, List, length, slice_get, Option, Some, None, true}
 use Rattle.ttx_header.specs.Ids.{Id}
@@ -18,13 +19,9 @@ use Rattle.ttx_page.specs.Streams.{Stream, repeated, heads_page}
 use Rattle.ttx_page.specs.Followers.{IsFollowed, IsFollowedByAnother, IsFollowedWithin}
 use Rattle.ttx_late.specs.declared.unshown.Unshown.{Unshown}
 
-abbrev pub HoldsId : Id → Packet → Type 0
-HoldsId page (Header id control text) = page ≡ id
-HoldsId page _ = ⊥
-
-abbrev pub HoldsNoId : Packet → Type 0
-HoldsNoId (Header id control text) = ⊥
-HoldsNoId _ = Unit {0}
+abbrev pub id_in : Packet → Option Id
+id_in (Header id control text) = Some id
+id_in _ = None
 
 abbrev pub HeadsAt : Stream → Id → ℕ → Type 0
 HeadsAt s page i = heads_page page (packet_of (s (pos i))) ≡ true
@@ -57,11 +54,18 @@ pub record IsGreatestGap (cycle : List (List ℕ)) (pages : List Page) (gap : �
   pub within : AreFollowedWithin cycle pages gap
   pub least : (other : ℕ) → AreFollowedWithin cycle pages other → gap ≤ other
 
--- a gap that is also enough for the listed pages' headers at slot i; it has grown only if one of them needs it
-pub record IsWidened (s : Stream) (pages : List Page) (i gap more : ℕ) : Type 0 where
+-- a page of the list has this id
+pub record IsListed (pages : List Page) (id : Id) : Type 0 where
+  pub index : ℕ
+  pub page : Page
+  pub listed : slice_get pages index ≡ Some page
+  pub is : page.id ≡ id
+
+-- a gap that is also enough for these pages' headers at slot i, each of which is followed; it has grown only if one of them needs it
+pub record IsWidened (s : Stream) (Sought : Id → Type 0) (i gap more : ℕ) : Type 0 where
   pub grows : gap ≤ more
-  pub enough : (n : ℕ) (p : Page) → slice_get pages n ≡ Some p → HeadsAt s p.id i → (f : IsFollowed s p.id (pos i)) → f.slot ≤ℤ pos (i + more)
-  pub needed : (more ≡ gap) ⊎ ((n : ℕ) × (p : Page) × (slice_get pages n ≡ Some p) × HeadsAt s p.id i × IsFollowedIn s p.id i more)
+  pub enough : (page : Id) → Sought page → HeadsAt s page i → (f : IsFollowed s page (pos i)) × (f.slot ≤ℤ pos (i + more))
+  pub needed : (more ≡ gap) ⊎ ((page : Id) × Sought page × HeadsAt s page i × IsFollowedIn s page i more)
 
 -- the page is at this index of the list; the slot is such a header of it, and at each earlier slot of the cycle each page is followed
 pub record IsFirstUnshown (cycle : List (List ℕ)) (pages : List Page) (u : Unshown) : Type 0 where

@@ -6,7 +6,7 @@
 use Rattle.std.specs.Prelude.{ℕ, List, [], ◌∷◌, ◌++◌, codes}
 use Rattle.std.specs.Fmt.{decimal}
 use Rattle.ttx_header.specs.Ids.{Id}
-use Rattle.ttx_witness.specs.Entries.{CertificateFields}
+use Rattle.ttx_certificate.specs.Entries.{CertificateFields}
 use Rattle.ttx_certify.specs.VerdictLines.{slot_words, yes_text, verdict_line}
 use Rattle.ttx_certify.specs.declared.verdict.Verdict.TheVariants as certifier
 use Rattle.ttx_late.specs.declared.verdict.LateVerdict.{LateVerdict}

@@ -7,8 +7,8 @@ ghost use Rattle.ttx_page.specs.Views.{page_of};
 ghost use Rattle.ttx_page.specs.Pages as definitions;
 ghost use Rattle.ttx_cycle.specs.Cycles.{slots_of};
 ghost use Rattle.ttx_page.specs.Followers.{heads_another, IsFollowed, IsFollowedByAnother};
-ghost use Rattle.ttx_late.specs.Followed.{HoldsId, HoldsNoId, AllAreFollowed, IsFollowedIn, IsGap, IsGreatestGap, IsWidened, TellsUnfollowed};
-ghost use Rattle.ttx_late.specs.Followed.{IsFirstUnshown};
+ghost use Rattle.ttx_late.specs.Followed.{id_in, HeadsAt, AllAreFollowed, IsFollowedIn, IsGap, IsGreatestGap, TellsUnfollowed};
+ghost use Rattle.ttx_late.specs.Followed.{IsFirstUnshown, IsListed, IsUnfollowedAt, IsWidened};
 
 use crate::Unshown;
 use ttx_cycle::Cycle;
@@ -17,7 +17,7 @@ use ttx_page::Page;
 
 // The id in a page header; `None` for other packets.
 fn id_in(slot: &[u8; 42]) -> Option<PageId>
-    ensures { MatchOption result (HoldsNoId (packet_of slot.now)) (λ id. HoldsId id (packet_of slot.now)) }
+    ensures { result ≡ id_in (packet_of slot.now) }
 {
     ttx_cycle::arrays::is_slot(slot);
     ttx_header::laws::headers_have_fields();
@@ -48,20 +48,29 @@ pub fn heads_another(page: PageId, slot: &[u8; 42]) -> bool
     }
 }
 
+// The slot at this place of the stream that repeats the slots.
+fn slot_at(slots: &[[u8; 42]], at: usize) -> &[u8; 42]
+    requires some { 0 < length slots.now }
+    ensures { result.now ≡ repeated slots.now (pos at) }
+{
+    &slots[at % slots.len()]
+}
+
 // The number of slots from the page's header at slot `at` to the next header of its magazine, if that has another page number. The
 // slots read for one header of a magazine are not read again for the next.
 fn follower(slots: &[[u8; 42]], at: usize, page: PageId) -> Option<usize>
     requires at { at < length slots.now }
     requires most { length slots.now ≤ 65536 }
-    requires here { heads_page page (packet_of (slice_index_or slots.now at [])) ≡ true }
+    requires here { HeadsAt (repeated slots.now) page at }
     ensures { MatchOption result (IsFollowed (repeated slots.now) page (pos at) → ⊥)
         (λ distance. IsFollowedIn (repeated slots.now) page at distance) }
 {
-    for step in 0..slots.len() {
-        let slot = &slots[(at + 1 + step) % slots.len()];
+    ttx_page::laws::cycles_repeat();
+    for distance in 1..slots.len() + 1 {
+        let slot = slot_at(slots, at + distance);
         if heads(page.mag(), slot) {
             if heads_another(page, slot) {
-                return Some(step + 1);
+                return Some(distance);
             }
             return None;
         }
@@ -75,7 +84,7 @@ fn unfollowed_at(slots: &[[u8; 42]], at: usize) -> Option<PageId>
     requires most { length slots.now ≤ 65536 }
     ensures { TellsUnfollowed (repeated slots.now) at result }
 {
-    match id_in(&slots[at]) {
+    match id_in(slot_at(slots, at)) {
         Some(page) => match follower(slots, at, page) {
             Some(_) => None,
             None => Some(page),
@@ -94,6 +103,27 @@ fn heads_page(page: PageId, slot: &[u8; 42]) -> bool
     }
 }
 
+// The larger of `gap` and the slots from the page's header in slot `at`, if it is one, to the next header of its magazine; `None` if
+// that has the page's own number.
+fn widened_for(slots: &[[u8; 42]], page: PageId, at: usize, gap: usize) -> Option<usize>
+    requires at { at < length slots.now }
+    requires most { length slots.now ≤ 65536 }
+    ensures { MatchOption result (IsUnfollowedAt (repeated slots.now) page at) (IsWidened (repeated slots.now) (λ id. id ≡ page) at gap) }
+{
+    if !heads_page(page, slot_at(slots, at)) {
+        return Some(gap);
+    }
+    match follower(slots, at, page) {
+        Some(distance) => {
+            if distance <= gap {
+                return Some(gap);
+            }
+            Some(distance)
+        }
+        None => None,
+    }
+}
+
 /// The most slots from a header of the page to the next header of its magazine; `None` if one of these has the page's own number.
 /// Receivers that show a page late show it at most this many slots after the deadline.
 pub fn gap_after(cycle: &Cycle, page: PageId) -> Option<usize>
@@ -104,15 +134,9 @@ pub fn gap_after(cycle: &Cycle, page: PageId) -> Option<usize>
     let slots = cycle.slots();
     let mut gap = 0;
     for at in 0..slots.len() {
-        if heads_page(page, &slots[at]) {
-            match follower(slots, at, page) {
-                Some(distance) => {
-                    if distance > gap {
-                        gap = distance;
-                    }
-                }
-                None => return None,
-            }
+        match widened_for(slots, page, at, gap) {
+            Some(more) => gap = more,
+            None => return None,
         }
     }
     Some(gap)
@@ -154,9 +178,10 @@ pub fn first_unshown(cycle: &Cycle, pages: &[Page]) -> Option<Unshown>
 fn widened(slots: &[[u8; 42]], pages: &[Page], at: usize, gap: usize) -> usize
     requires at { at < length slots.now }
     requires most { length slots.now ≤ 65536 }
-    ensures { IsWidened (repeated slots.now) (map page_of pages.now) at gap result }
+    requires followed { AllAreFollowed slots.now (map page_of pages.now) }
+    ensures { IsWidened (repeated slots.now) (IsListed (map page_of pages.now)) at gap result }
 {
-    match id_in(&slots[at]) {
+    match id_in(slot_at(slots, at)) {
         Some(id) => match follower(slots, at, id) {
             Some(distance) => {
                 if distance <= gap {

@@ -10,6 +10,7 @@ pub fn runs_are_shown()
     ttx_render::laws::contents_decide();
     ttx_packet::laws::kind_is_kept();
     ttx_header::laws::header_is_kept();
+    ttx_page::laws::runs_go_on();
 }
 
 /// In the stream of a cycle, the next header of the magazine comes within the length of the cycle.

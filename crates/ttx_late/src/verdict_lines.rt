@@ -1,7 +1,7 @@
 //! The lines of verdicts for receivers that may show pages late.
 
-ghost use Rattle.std.specs.Prelude.{◌≡◌, ◌∷◌, ◌++◌, [], OnOk, IfOk, string_bytes};
-ghost use Rattle.ttx_witness.specs.Certificates.{fields_of};
+ghost use Rattle.std.specs.Prelude.{◌≡◌, ◌∷◌, ◌++◌, [], OnOk, IfOk, length, string_bytes};
+ghost use Rattle.ttx_certificate.specs.Certificates.{fields_of};
 ghost use Rattle.ttx_certify.specs.VerdictLines.{page_words, slot_words};
 ghost use Rattle.ttx_late.specs.LateVerdictLines.{late_text, late_verdict_line};
 
@@ -9,6 +9,7 @@ use crate::verdict::LateVerdict;
 use std::alloc::{AllocError, Global};
 use ttx_certify::{Verdict, push_yes, verdict_line};
 use ttx_header::PageId;
+use ttx_source::Service;
 use ttx_witness::{Certificate, NoMemory, push_id};
 
 fn push_late(
@@ -45,7 +46,7 @@ fn push_ended(text: &mut String, name: &str, page: PageId, slot: usize) -> Resul
     text.push('\n')
 }
 
-fn late_line(
+fn yes_line(
     alloc: Global,
     certificate: &Certificate,
     pages: usize,
@@ -80,10 +81,22 @@ pub fn late_verdict_line(
     ensures { IfOk result (λ line. string_bytes line ≡ late_verdict_line (fields_of certificate.now) pages verdict) }
 {
     match verdict {
-        LateVerdict::Yes { gap } => late_line(alloc, certificate, pages, gap),
+        LateVerdict::Yes { gap } => yes_line(alloc, certificate, pages, gap),
         LateVerdict::No(reason) => { verdict_line(alloc, certificate, pages, Verdict::No(reason)) }
         LateVerdict::NeverShown { page, slot } => {
             slot_line(alloc, "no 13 never-shown", page, slot)
         }
     }
+}
+
+/// The line of a verdict on the pages of a service.
+pub(crate) fn late_line(
+    alloc: Global,
+    service: &Service,
+    certificate: &Certificate,
+    verdict: &LateVerdict,
+) -> Result<String, NoMemory>
+    ensures { IfOk result (λ line. string_bytes line ≡ late_verdict_line (fields_of certificate.now) (length service.now.pages) verdict.now) }
+{
+    late_verdict_line(alloc, certificate, service.pages().len(), *verdict)
 }

@@ -20,9 +20,6 @@ use Rattle.ttx_files.specs.declared.faults.FeedFault.{FeedFault}
 pub file_more : (xs : List (List ℕ)) (z : List ℕ) → file_of xs ++ z ≡ file_of (xs ++ z ∷ [])
 file_more xs z = sym (flat_map-append (λ slot. slot) xs (z ∷ []) ∙ ap (λ l. file_of xs ++ l) (append-nil z))
 
-file_both : (xs ys : List (List ℕ)) → file_of xs ++ file_of ys ≡ file_of (xs ++ ys)
-file_both xs ys = sym (flat_map-append (λ slot. slot) xs ys)
-
 -- what is left of known bytes
 left : (P : List ℕ → Type 0) (a b : Option (List ℕ)) (bs : List ℕ) → Consumes a b bs → ((ys : List ℕ) → b ≡ Some ys → P (bs ++ ys)) → IfSome a P
 left P None b bs c f = tt
@@ -74,10 +71,6 @@ first_left most old new slots (Some rest) each read a is some = left _ old read.
 pub if_both : (P Q R : List ℕ → Type 0) (o : Option (List ℕ)) → ((x : List ℕ) → P x → Q x → R x) → IfSome o P → IfSome o Q → IfSome o R
 if_both P Q R None f p q = tt
 if_both P Q R (Some x) f p q = f x p q
-
-pub if_heard : (P Q : Heard → Type 0) (r : Result Heard FeedFault) → ((x : Heard) → P x → Q x) → IfOk r P → IfOk r Q
-if_heard P Q (Ok x) f p = f x p
-if_heard P Q (Err e) f p = p
 
 pub if_known : (P Q : List ℕ → Type 0) (o : Option (List ℕ)) → ((x : List ℕ) → P x → Q x) → IfSome o P → IfSome o Q
 if_known P Q None f p = tt

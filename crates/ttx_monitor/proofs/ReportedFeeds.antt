@@ -144,12 +144,3 @@ pub failed : (cycle : List (List ℕ)) (pages : List Page) (c : Certificate) (by
     ReportsFrom cycle pages c bytes g old new (Err fault)
 failed cycle pages c bytes g old new f (follow.Write written) h = inl h
 failed cycle pages c bytes g old new f (follow.Feed fault) h = h
-
-pub kept_cut : (w : Watched) (bytes : List ℕ) (g : Telling) (old mid new : Option (List ℕ)) → IsCutOff w bytes g old mid → Keeps mid new →
-    IsCutOff w bytes g old new
-kept_cut w bytes g old mid new h keeps = record {
-  events = h.events;
-  left = h.left;
-  walk = h.walk;
-  out = Appends-kept old mid new (told_text g nothing_yet h.events) h.out keeps;
-}

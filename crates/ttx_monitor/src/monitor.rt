@@ -3,7 +3,7 @@
 ghost use Rattle.std.specs.Prelude.{◌≡◌, ◌↔◌, ◌<◌, ◌≤◌, IsTrue, ℕ, length, slice_index_or, None, [], ◌+◌, ◌-◌, ◌%◌, ◌^◌, min};
 ghost use Rattle.ttx_packet.specs.Slots.{IsSlot};
 ghost use Rattle.ttx_cycle.specs.Cycles.{slots_of};
-ghost use Rattle.ttx_witness.specs.Certificates.{certificate_of};
+ghost use Rattle.ttx_certificate.specs.Certificates.{certificate_of};
 ghost use Rattle.ttx_witness.specs.Coverage.{limit as slots_to};
 ghost use Rattle.ttx_monitor.specs.Breaches.{first_told};
 
@@ -117,7 +117,7 @@ impl<'a> Monitor<'a> {
     ghost use Rattle.ttx_monitor.specs.Watching.{Watched, watched, sent_at, AllReceived, IsWithin};
     ghost use Rattle.ttx_witness.specs.Coverage.{Accepts, limit};
     ghost use Rattle.ttx_source.specs.Services.{pages_of};
-    ghost use Rattle.ttx_witness.specs.Certificates.{certificate_of};
+    ghost use Rattle.ttx_certificate.specs.Certificates.{certificate_of};
     ghost use Rattle.ttx_certify.specs.Laws.{ArePages};
     ghost use Rattle.ttx_monitor.specs.Laws.{IsSeenIn};
     ghost use Rattle.ttx_monitor.specs.Breaches.{IsHeard};

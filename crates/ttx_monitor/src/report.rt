@@ -8,7 +8,7 @@ ghost use Rattle.ttx_cycle.specs.Files.{IsCycle};
 ghost use Rattle.ttx_page.specs.Pages.{Page};
 ghost use Rattle.ttx_certify.specs.Laws.{ArePages};
 ghost use Rattle.ttx_source.specs.Services.{pages_of};
-ghost use Rattle.ttx_witness.specs.Certificates.{certificate_of};
+ghost use Rattle.ttx_certificate.specs.Certificates.{certificate_of};
 ghost use Rattle.ttx_witness.specs.Coverage as coverage;
 ghost use Rattle.ttx_monitor.specs.Watching.{watched};
 ghost use Rattle.ttx_monitor.specs.Wordings.{Words, Telling};

@@ -47,9 +47,6 @@ either_quiet false e f = f
 
 -- ---- numbers
 
-one_quiet : (b : ℕ) → quiet b ≡ true → IsQuiet (b ∷ [])
-one_quiet b e = calm (both_true (quiet b) true e refl)
-
 -- digits and letters
 figure_quiet : (b : ℕ) → 48 ≤ b → b < 58 → quiet b ≡ true
 figure_quiet b l h = grind (arith, nat_tests)

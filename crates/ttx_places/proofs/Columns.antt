@@ -11,13 +11,6 @@ pub last_whole : (text : List ℕ) → list_any is_line_feed text ≡ false → 
 last_whole [] none = refl
 last_whole (byte ∷ text) none = rw none
 
-first_by : (text : List ℕ) (any : Bool) → list_any is_line_feed text ≡ any → ends 1 text ≡ column_after text
-first_by text true any = rw any
-first_by text false none = rw (none, last_whole text none) (omega arith)
-
-pub ends_first : (text : List ℕ) → ends 1 text ≡ column_after text
-ends_first text = first_by text (list_any is_line_feed text) refl
-
 many_by : (test : ℕ → Bool) (byte : ℕ) (text : List ℕ) (holds : Bool) → test byte ≡ holds
     → how_many test (byte ∷ text) ≡ (if test byte then 1 else 0) + how_many test text
 many_by test byte text true holds = rw holds (omega arith)

@@ -5,7 +5,7 @@ use Rattle.ttx_page.specs.Laws.{PagesKeepTheirRules}
 use Rattle.ttx_page.specs.Views.{page_of}
 use Rattle.ttx_page.specs.declared.page.Page.{Page as PageValue}
 use Rattle.ttx_source.specs.Services.{pages_of}
-use Rattle.ttx_witness.specs.CertificateLaws.{CertificatesKeepTheirRules}
+use Rattle.ttx_certificate.specs.CertificateLaws.{CertificatesKeepTheirRules}
 use Rattle.ttx_certify.specs.Laws.{ArePages}
 use Rattle.ttx_certify.proofs.PageByPage.{are_pages}
 use Rattle.ttx_playout.specs.declared.edition.Edition.{Edition as EditionValue}

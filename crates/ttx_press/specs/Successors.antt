@@ -8,7 +8,7 @@
 --   Suits                   such an edition is accepted, may follow, and ends between two pages
 --   IsTurnedTo, IsPassed    a turn that suits; one that does not
 --   TriesTurn, TakesTurn    a turn is tried; the first of some turns that suits, without one the edition as it is
---   is_late, IsItemLate     whether only an item that comes too late through the change is in the way
+--   tells_late, IsItemLate  whether only an item that comes too late through the change is in the way
 --   Succeeds                what follows, of a planned edition
 use Rattle.std.specs.Prelude.{◌≡◌, ◌⊎◌, ℕ, Bool, true, false, List, [], ◌∷◌, take}
 use Rattle.ttx_air.specs.Judgements.{IsJudgement}
@@ -78,14 +78,14 @@ abbrev pub TakesTurn : House → Edition → Edition → List ℕ → Edition �
 TakesTurn h old e [] t = t ≡ e
 TakesTurn h old e (at ∷ places) t = IsTurnedTo h old e at t ⊎ (IsPassed h old e at × TakesTurn h old e places t)
 
-abbrev pub is_late : SpliceVerdict → Bool
-is_late (No (SeamLate page item)) = true
-is_late _ = false
+abbrev pub tells_late : SpliceVerdict → Bool
+tells_late (No (SeamLate page item)) = true
+tells_late _ = false
 
 pub record IsItemLate (old planned : Edition) (late : Bool) : Type 0 where
   pub verdict : SpliceVerdict
   pub is : IsChangeVerdict old planned verdict
-  pub same : is_late verdict ≡ late
+  pub same : tells_late verdict ≡ late
 
 -- at most 64 turns
 abbrev pub SucceedsBy : Bool → House → Edition → Edition → Edition → Type 0

@@ -1,4 +1,5 @@
-//! Editions of service texts: each text is read, planned and certified with the same numbers, or refused in one line.
+//! Editions of service texts: each text is read, planned and certified with the same numbers, or refused in one line. Where only an
+//! item that comes too late through a change is in the way, the cycle begins at another page header.
 #![tactic(auto)]
 
 mod author_refusals;

@@ -42,19 +42,6 @@ judged v promises old new cycle deadlines (improved.Late pages) plan are r j = (
   },
 )
 
--- the service as it was
-pub kept_so : (v : Viewers) (promises : List PromiseFields) (old new : ServiceFields) (cycle : List (List ℕ)) → new ≡ old →
-    KeepsPromises v promises old cycle → KeepsPromises v promises new cycle
-kept_so v promises old new cycle e k = subst (λ (s : ServiceFields). KeepsPromises v promises s cycle) (sym e) k
-
-pub missed_so : (v : Viewers) (promises : List PromiseFields) (old new : ServiceFields) (cycle : List (List ℕ)) (pages : List LateFields) →
-    new ≡ old → IsMissed v promises old cycle pages → IsMissed v promises new cycle pages
-missed_so v promises old new cycle pages e k = subst (λ (s : ServiceFields). IsMissed v promises s cycle pages) (sym e) k
-
-pub raised_as_before : (promises : List PromiseFields) (first old new : ServiceFields) → new ≡ old → IsRaised promises first old →
-    IsRaised promises first new
-raised_as_before promises first old new e r = subst (IsRaised promises first) (sym e) r
-
 pub ends_from : (v : Viewers) (promises : List PromiseFields) (first old new : ServiceFields) (answer : Result Cycle Missed) →
     IsRaised promises first old → Ends v promises old new answer → Ends v promises first new answer
 ends_from v promises first old new (Ok cycle) r e = (further_raised promises first old new r e.0, e.1)

@@ -25,9 +25,6 @@ abbrev pub IsSoFar : (ℕ → ℕ) → ℕ → Option ℕ → ℕ → Type 0
 IsSoFar f k None most = IsNoneBefore f k most
 IsSoFar f k (Some number) most = IsMostBefore f k most number
 
-pub none_so_far : (f : ℕ → ℕ) → IsSoFar f 0 None 0
-none_so_far f = record { is = refl; none = λ other lt. absurd (omega (arith, lt)) }
-
 pub not_more : (f : ℕ → ℕ) (k : ℕ) (latest : Option ℕ) (most : ℕ) → f k ≤ most → IsSoFar f k latest most → IsSoFar f (k + 1) latest most
 not_more f k None most le s = record {
   is = s.is;

@@ -64,15 +64,6 @@ room_less (p ∷ pages) (suc i) often s from to =
     let less = room_less pages i often (record { page = s.page; at = s.at; is = s.is }) from to in
     omega (arith, less)
 
-doubles : agree_below (λ n. cond (is_often n) (is_often (2 * n)) true) (λ _. true) 8 ≡ true
-doubles = refl
-
--- 1, 2 or 4 times, and then twice as often
-pub double_is_often : (n : ℕ) → is_often n ≡ true → n < 8 → is_often (2 * n) ≡ true
-double_is_often n is few =
-    sym (cond-true (is_often n) (is_often (2 * n)) true is)
-    ∙ agree_below_at (λ n. cond (is_often n) (is_often (2 * n)) true) (λ _. true) 8 n doubles few
-
 pub at_least_once : (n : ℕ) → is_often n ≡ true → 1 ≤ n
 at_least_once zero is = let f : false ≡ true = is in cc
 at_least_once (suc n) is = omega arith

@@ -9,6 +9,3 @@ Answer = Result Cycle PlanFault
 
 pub is_so : {P : Type 0} (fault asked : PlanFault) → fault ≡ asked → ((◌≡◌ {A = Answer} (Err fault) (Err asked)) ↔ P) → P
 is_so fault asked e iff = iff.0 (ap (λ f. Err f) e)
-
-pub is_not_so : {P : Type 0} (cycle : Cycle) (asked : PlanFault) → ((◌≡◌ {A = Answer} (Ok cycle) (Err asked)) ↔ P) → P → ⊥
-is_not_so cycle asked iff p = let f : ◌≡◌ {A = Answer} (Ok cycle) (Err asked) = iff.1 p in cc

@@ -35,12 +35,6 @@ latest_rare pages deadlines promises number latest =
     subst (λ i. often_at pages i < 8) (sym (latest_page pages deadlines promises number latest))
     (is_rare pages latest.promise (latest_weighs pages deadlines promises number latest))
 
-pub latest_within : (pages : List Authored) (deadlines : List ℕ) (promises : List PromiseFields) (number : ℕ) →
-    IsLatest pages deadlines promises number → page_at promises number < length pages
-latest_within pages deadlines promises number latest =
-    let s = rare_there pages (page_at promises number) (latest_rare pages deadlines promises number latest) in
-    slice_get_within pages (page_at promises number) s.page s.at
-
 may_rise_here : (pages : List Authored) (deadlines : List ℕ) (promises : List PromiseFields) (number : ℕ) →
     IsLatest pages deadlines promises number → MayRise promises (page_at promises number)
 may_rise_here pages deadlines promises number latest = record {

@@ -6,7 +6,6 @@ use Rattle.ttx_page.specs.Packets.{packet_of}
 use Rattle.ttx_page.specs.Pages.{Page}
 use Rattle.ttx_page.specs.Streams.{repeated, heads, heads_page, IsLatestHeader, IsOwned}
 use Rattle.ttx_proof.specs.LastBlocks.{GoesOn, IsAmid}
-use Rattle.ttx_proof.specs.Seams.{IsLeftTo}
 use Rattle.ttx_proof.proofs.HangingOver.{Hangs, hangs_of, owned_of}
 
 module _ (old : List (List ℕ)) (p : Page) where
@@ -46,20 +45,6 @@ module _ (old : List (List ℕ)) (p : Page) where
 
     hangs : Hangs (repeated old) p.id a.item header a.next
     hangs = hangs_of (repeated old) p.id a.item header a.next (let k = before in let on = a.not_before in omega (arith, ints)) a.comes
-
-    pub left_of : IsLeftTo (repeated old) p.id
-    left_of =
-        let h = hangs in
-        let on = a.not_before in
-        record {
-          owner = header;
-          latest = record {
-            earlier = before;
-            is_header = h.latest.is_header;
-            none_between = λ i u v. h.latest.none_between i u (omega (arith, ints));
-          };
-          mine = h.mine;
-        }
 
     pub goes_of : (j : ℤ) × GoesOn (repeated old) p j
     goes_of =

@@ -16,7 +16,7 @@ use Rattle.ttx_page.specs.Steady.{IsTrueTo}
 use Rattle.ttx_page.specs.Laws.{EachSlotTurns}
 use Rattle.ttx_witness.specs.sent.Collected.{item_number, IsItem}
 use Rattle.ttx_witness.specs.Coverage.{Certificate, limit, Accepts}
-use Rattle.ttx_witness.specs.passes.PageFacts.{FirstBelow}
+use Rattle.ttx_certify.specs.walks.PageFacts.{FirstBelow}
 use Rattle.ttx_witness.specs.laws.JudgingLaws.{TransmissionsAreListed, FirstPeriodIsListed}
 use Rattle.ttx_witness.specs.runs.Repeating.{FollowInTime}
 use Rattle.ttx_witness.specs.sent.ItemTransmissions.{sent_in, sent_after}

@@ -15,7 +15,7 @@ use Rattle.ttx_page.specs.Views.{page_of}
 use Rattle.ttx_page.specs.declared.page.Page.{Page as PageValue}
 use Rattle.ttx_page.specs.declared.item.Item.{Item}
 use Rattle.ttx_witness.specs.sent.AllSent.{AreAllSent, AreSentAfter}
-use Rattle.ttx_witness.specs.Certificates.{certificate_of}
+use Rattle.ttx_certificate.specs.Certificates.{certificate_of}
 use Rattle.ttx_witness.specs.Coverage as coverage
 use Rattle.ttx_certificate.specs.declared.certificates.Certificate.{Certificate}
 use Rattle.ttx_proof.specs.Splices.{Splice, IsCommon, HasSeam, IsBridged, NumbersAgree}

@@ -11,8 +11,8 @@
 use Rattle.std.specs.Prelude.{◌≡◌, ◌⊎◌, ℕ, List, ⊤, Option, IfSome, Result, Ok, Err}
 use Rattle.ttx_cycle.specs.Cycles.{slots_of}
 use Rattle.ttx_source.specs.Services.{ServiceFields, pages_of}
-use Rattle.ttx_witness.specs.Certificates.{fields_of}
-use Rattle.ttx_witness.specs.Entries.{CertificateFields, certificate_at}
+use Rattle.ttx_certificate.specs.Certificates.{fields_of}
+use Rattle.ttx_certificate.specs.Entries.{CertificateFields, certificate_at}
 use Rattle.ttx_files.specs.Answers.{WritesAnswer}
 use Rattle.ttx_files.specs.Telling.{IsTold}
 use Rattle.ttx_files.specs.Texts.{ReadsPackets, ReadsService, ReadsWitness}

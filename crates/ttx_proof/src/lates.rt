@@ -15,7 +15,8 @@ use crate::verdict::SpliceReason;
 use std::alloc::Global;
 use ttx_page::{Item, Page, needed};
 use ttx_witness::{
-    Collected, NoMemory, PageIndex, collect, collect_after, item_of, limit, run_length,
+    Collected, NoMemory, PageIndex, Transmission, collect, collect_after, item_of, limit,
+    run_length,
 };
 
 /// The transmissions of all items of all pages: in the old cycle, in the first new period, and in the new cycle.
@@ -34,6 +35,15 @@ pub struct CommonPage<'a> {
     new_place: usize,
 }
 
+/// What is kept from one item to the next: room for the transmissions near the splice, and the places from which on the certificates
+/// are searched.
+#[derive(Drop)]
+pub struct Kept {
+    room: Vec<Transmission>,
+    old_near: usize,
+    new_near: usize,
+}
+
 // The transmissions of all items of all pages.
 fn collect_all(alloc: Global, sides: &Sides) -> Result<Sent, NoMemory>
     ensures { IfOk result (λ sent. AreSentOn (splice_between sides.now) sent) }
@@ -48,7 +58,7 @@ fn collect_all(alloc: Global, sides: &Sides) -> Result<Sent, NoMemory>
 
 // Whether a viewer sees the item of a common page, and it is not bridged.
 fn is_late(
-    alloc: Global,
+    kept: &mut Kept,
     sides: &Sides,
     sent: &Sent,
     common: &CommonPage,
@@ -69,20 +79,26 @@ fn is_late(
         middle: sent.middle.sent(common.new_place, item),
         news: sent.news.sent(common.new_place, item),
     };
+    let id = common.page.id();
+    let (old_near, olds) = old.certificate.starts_near(id, item, kept.old_near);
+    let (new_near, news) = new.certificate.starts_near(id, item, kept.new_near);
+    kept.old_near = old_near;
+    kept.new_near = new_near;
     let starts = NamedStarts {
-        olds: old.certificate.starts(common.page.id(), item),
-        news: new.certificate.starts(common.page.id(), item),
+        olds,
+        news,
         old_period: old.cycle.slots().len() as u32,
         new_period: new.cycle.slots().len() as u32,
     };
     let repeat = run_length(new.certificate.repeat(), &item);
-    let bridged = is_bridged(alloc, &sent, &starts, repeat, limit(new.certificate))?;
+    let slots = limit(new.certificate);
+    let bridged = is_bridged(&mut kept.room, &sent, &starts, repeat, slots)?;
     Ok(!bridged)
 }
 
 // The first item of a common page that is not bridged.
 fn late_item(
-    alloc: Global,
+    kept: &mut Kept,
     sides: &Sides,
     sent: &Sent,
     common: &CommonPage,
@@ -91,7 +107,7 @@ fn late_item(
         StandsIn (splice_between sides.now) common.now → TellsLate (splice_between sides.now) (page_of common.now.page.now) late) }
 {
     for number in 0..26u8 {
-        if is_late(alloc, sides, sent, common, item_of(number))? {
+        if is_late(kept, sides, sent, common, item_of(number))? {
             return Ok(Some(item_of(number)));
         }
     }
@@ -100,7 +116,7 @@ fn late_item(
 
 // The same for the page at this place of the new list, if it is common. The index is that of the old pages.
 fn late_of(
-    alloc: Global,
+    kept: &mut Kept,
     sides: &Sides,
     sent: &Sent,
     index: &PageIndex,
@@ -119,7 +135,7 @@ fn late_of(
                 old_place,
                 new_place,
             };
-            late_item(alloc, sides, sent, &common)
+            late_item(kept, sides, sent, &common)
         }
         None => Ok(None),
     }
@@ -136,8 +152,13 @@ fn late_among(
     ensures { IfOk result (λ late. AreKnown (splice_between sides.now) → AreSentOn (splice_between sides.now) sent.now →
         TellsLates (splice_between sides.now) late) }
 {
+    let mut kept = Kept {
+        room: Vec::new(alloc),
+        old_near: 0,
+        new_near: 0,
+    };
     for new_place in 0..sides.new.pages.len() {
-        if let Some(item) = late_of(alloc, sides, sent, index, new_place)? {
+        if let Some(item) = late_of(&mut kept, sides, sent, index, new_place)? {
             let page = sides.new.pages[new_place].id();
             return Ok(Some(SpliceReason::SeamLate { page, item }));
         }

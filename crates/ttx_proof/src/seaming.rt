@@ -26,8 +26,9 @@ fn seam_of(
     ensures { Contains (splice_between sides.now).new_pages (page_of page.now) → TellsSeamOf (splice_between sides.now) (page_of page.now) result }
 {
     let (old, new) = (&sides.old, &sides.new);
+    let slot = first_seam(old.cycle, new.cycle, latest, page)?;
     match equal_place(old.pages, index, page) {
-        Some(_) => first_seam(old.cycle, new.cycle, latest, page),
+        Some(_) => Some(slot),
         None => None,
     }
 }

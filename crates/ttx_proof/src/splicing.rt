@@ -3,7 +3,7 @@
 ghost use Rattle.std.specs.Prelude.{◌≡◌, ◌≢◌, ◌↔◌, IsTrue, IfOk};
 ghost use Rattle.std.specs.List.{AllPairs};
 ghost use Rattle.ttx_page.specs.declared.class.Class.TheVariants.{Any};
-ghost use Rattle.ttx_witness.specs.Certificates.{certificate_of};
+ghost use Rattle.ttx_certificate.specs.Certificates.{certificate_of};
 ghost use Rattle.ttx_witness.specs.sent.Collected.{IsIndex};
 ghost use Rattle.ttx_page.specs.Views.{ids_of};
 ghost use Rattle.ttx_proof.specs.Splices.{NumbersAgree};

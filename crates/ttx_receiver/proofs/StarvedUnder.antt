@@ -70,10 +70,6 @@ slot_at lines sel item s tau former (suc n) t lt =
           ∙ ap (λ x. heard lines sel item (starved_memory lines sel item s tau former x) (s (tau +ℤ pos x))) e
     ]
 
-and_no : (a b : Bool) → a ≡ false → (a && b) ≡ true → ⊥
-and_no true b h k = cc
-and_no false b h k = cc
-
 pub takes_something : (lines : ℕ) (sel : Selection) (item : Item) (m : Memory) (pkt : Packet) → takes lines sel item m pkt ≡ true → pkt ≡ Empty → ⊥
 takes_something lines sel TheHead m pkt h e = both_ways _ refl (subst (λ x. heads_matched sel x ≡ true) e h)
 takes_something lines sel (TheRow r) m pkt h e =

@@ -1,5 +1,5 @@
 -- The pages that a service lacks are reported beside promises alone.
-use Rattle.std.proofs.Common.{◌≡◌, ◌∙◌, ℕ, List, [], ◌∷◌, map, slice_get, Some, None, refl, sym, ap}
+use Rattle.std.proofs.Common.{◌≡◌, ◌∙◌, ℕ, List, [], ◌∷◌, map, slice_get, Some, refl, sym, ap}
 use Rattle.std.proofs.lemmas.Simd.{map-map}
 use Rattle.ttx_page.specs.Pages.{Page}
 use Rattle.ttx_page.specs.Views.{page_of, ids_of}
@@ -9,11 +9,6 @@ use Rattle.ttx_source.specs.Services.{Authored, ServiceFields, authored_ids}
 use Rattle.ttx_source.specs.declared.promises.Promise.{Promise}
 use Rattle.ttx_promise.specs.OtherPages.{other_pages}
 use Rattle.ttx_records.specs.WaitReports.{absent_pages}
-
-pub none_absent : (cycle : List (List ℕ)) (service : ServiceFields) (promises : List Promise) → slice_get promises 0 ≡ None →
-    absent_pages cycle service (map promise_view promises) ≡ []
-none_absent cycle service [] e = refl
-none_absent cycle service (p ∷ ps) e = absurd (cc)
 
 pub some_absent : (cycle : List (List ℕ)) (service : ServiceFields) (promises : List Promise) (p : Promise) → slice_get promises 0 ≡ Some p →
     absent_pages cycle service (map promise_view promises) ≡ other_pages cycle (authored_ids service.pages)

@@ -1,2 +1,2 @@
 mod AbsentPages
-mod SixMembers
+mod Lines

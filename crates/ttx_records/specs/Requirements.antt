@@ -22,6 +22,6 @@ unmet_members (Deadline deadline fields) = unmet (codes "deadline") deadline fie
 unmet_members (LateDeadline deadline fields) = unmet (codes "late-deadline") deadline fields
 
 abbrev pub required_record : CertificateFields → ℕ → RequiredVerdict → List ℕ
-required_record w pages required.Yes = line (yes_members w pages)
+required_record w pages required.Yes = line (yes_members w pages [])
 required_record w pages (required.No reason) = line (reason_members reason)
 required_record w pages (required.Unmet unmet) = line (unmet_members unmet)

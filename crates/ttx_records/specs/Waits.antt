@@ -30,11 +30,8 @@ never members = flag (codes "never") true ∷ members
 abbrev pub at : List ℕ → ℕ → List Member
 at name slot = never (word (codes "name") name ∷ count (codes "slot") slot ∷ [])
 
-abbrev pub no_header : List Member
-no_header = never (word (codes "name") (codes "no-header") ∷ [])
-
 abbrev pub fault_members : Reason → List Member
-fault_members (NoHeader page) = no_header
+fault_members (NoHeader page) = never (word (codes "name") (codes "no-header") ∷ [])
 fault_members (OtherSubpage page slot) = at (codes "other-subpage") slot
 fault_members (Erased page slot) = at (codes "erased") slot
 fault_members (HeadDiffers page slot) = at (codes "head-differs") slot

@@ -6,6 +6,7 @@ mod counters;
 mod item_reports;
 mod item_waits;
 mod late_verdicts;
+mod members;
 mod names;
 mod number_waits;
 mod numbers;

@@ -4,18 +4,16 @@ ghost use Rattle.std.specs.Prelude.{◌≡◌, ◌+◌, ◌++◌, IfOk, OnOk, le
 ghost use Rattle.ttx_certificate.specs.Certificates.{certificate_of, fields_of};
 ghost use Rattle.ttx_certificate.specs.NamedStarts.{limit};
 ghost use Rattle.ttx_numbers.specs.Numbers.{number_text};
-ghost use Rattle.ttx_records.specs.LateVerdicts.{late_members};
 ghost use Rattle.ttx_records.specs.Names.{line};
 ghost use Rattle.ttx_records.specs.NumberRecords as rule;
 
 use crate::late_verdicts::push_late_verdict;
-use crate::names::{id_text, item_name};
+use crate::members::{No, push_no, push_of_item};
+use crate::verdicts::push_yes;
 use std::alloc::{AllocError, Global};
 use ttx_header::PageId;
 use ttx_json::{count, push_object, word};
-use ttx_late::LateVerdict;
 use ttx_numbers::push_number;
-use ttx_page::Item;
 use ttx_source::Service;
 use ttx_subpages::{Lack, NumberReport, NumbersVerdict};
 use ttx_witness::Certificate;
@@ -72,71 +70,21 @@ fn within(certificate: &Certificate, gap: usize) -> u64
     slots.min(u128::from(u64::MAX)) as u64
 }
 
-// Adds a yes, and each number.
-fn push_yes(
-    alloc: Global,
-    text: &mut String,
-    certificate: &Certificate,
-    pages: usize,
-    gap: usize,
-) -> Result<(), AllocError>
-    ensures { OnOk result (string_bytes text.new ≡ string_bytes text.old ++ line (late_members (fields_of certificate.now) pages gap)) }
-{
-    push_late_verdict(alloc, text, certificate, pages, LateVerdict::Yes { gap })
-}
-
-// Adds a rejection for a block that is not whole.
-#[tactic(auto, unfolding(crate::specs::Names::line))]
-fn push_unwhole(
-    alloc: Global,
-    text: &mut String,
-    page: PageId,
-    item: Item,
-    slot: usize,
-) -> Result<(), AllocError>
-    ensures { OnOk result (string_bytes text.new ≡ string_bytes text.old ++ line (rule.unwhole page item slot)) }
-{
-    let page = id_text(alloc, page)?;
-    let item = item_name(item);
-    let members = [
-        word("answer", "no"),
-        count("number", 14),
-        word("name", "unwhole"),
-        word("page", page.as_str()),
-        word("item", item),
-        count("slot", slot as u64),
-    ];
-    push_object(alloc, text, &members)
-}
-
-// Adds a rejection for a header that is of no page.
-#[tactic(auto, unfolding(crate::specs::Names::line))]
-fn push_unlisted(
-    alloc: Global,
-    text: &mut String,
-    page: PageId,
-    slot: usize,
-) -> Result<(), AllocError>
-    ensures { OnOk result (string_bytes text.new ≡ string_bytes text.old ++ line (rule.unlisted page slot)) }
-{
-    let number = number_text(alloc, page)?;
-    let members = [
-        word("answer", "no"),
-        count("number", 15),
-        word("name", "unlisted"),
-        word("page_number", number.as_str()),
-        count("slot", slot as u64),
-    ];
-    push_object(alloc, text, &members)
-}
-
 // Adds a rejection for what is not sent whole.
 fn push_lack(alloc: Global, text: &mut String, lack: Lack) -> Result<(), AllocError>
     ensures { OnOk result (string_bytes text.new ≡ string_bytes text.old ++ line (rule.lack_members lack)) }
 {
     match lack {
-        Lack::Unwhole { page, item, slot } => push_unwhole(alloc, text, page, item, slot),
-        Lack::Unlisted { page, slot } => push_unlisted(alloc, text, page, slot),
+        Lack::Unwhole { page, item, slot } => {
+            let slot = [count("slot", slot as u64)];
+            push_of_item(alloc, text, No(14, "unwhole"), (page, item), &slot)
+        }
+        Lack::Unlisted { page, slot } => {
+            let number = number_text(alloc, page)?;
+            let page = word("page_number", number.as_str());
+            let members = [page, count("slot", slot as u64)];
+            push_no(alloc, text, No(15, "unlisted"), &members)
+        }
     }
 }
 
@@ -155,7 +103,8 @@ pub fn numbers_record(
     let mut text = String::new(alloc);
     match *verdict {
         NumbersVerdict::Yes { gap } => {
-            push_yes(alloc, &mut text, certificate, pages, gap)?;
+            let late = [count("late", gap as u64)];
+            push_yes(alloc, &mut text, certificate, pages, &late)?;
             push_numbers(alloc, &mut text, within(certificate, gap), reports)?;
         }
         NumbersVerdict::No(verdict) => {

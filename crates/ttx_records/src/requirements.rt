@@ -18,16 +18,16 @@ fn push_of(
     alloc: Global,
     text: &mut String,
     name: &str,
-    value: u64,
-    most: u64,
+    value: u32,
+    most: u32,
 ) -> Result<(), AllocError>
     ensures { OnOk result (string_bytes text.new ≡ string_bytes text.old ++ line (rule.unmet name.now value most)) }
 {
     let members = [
         word("answer", "no"),
         word("name", name),
-        count(name, value),
-        count("of", most),
+        count(name, u64::from(value)),
+        count("of", u64::from(most)),
     ];
     push_object(alloc, text, &members)
 }
@@ -40,38 +40,23 @@ fn push_unmet(alloc: Global, text: &mut String, unmet: Unmet) -> Result<(), Allo
         Unmet::Lines {
             certificate,
             service,
-        } => push_of(
-            alloc,
-            text,
-            "lines",
-            u64::from(certificate),
-            u64::from(service),
-        ),
+        } => {
+            let most = u32::from(service);
+            push_of(alloc, text, "lines", u32::from(certificate), most)
+        }
         Unmet::Deadline {
             certificate,
             required,
-        } => push_of(
-            alloc,
-            text,
-            "deadline",
-            u64::from(certificate),
-            u64::from(required),
-        ),
+        } => push_of(alloc, text, "deadline", certificate, required),
         Unmet::LateDeadline {
             certificate,
             required,
-        } => push_of(
-            alloc,
-            text,
-            "late-deadline",
-            u64::from(certificate),
-            u64::from(required),
-        ),
+        } => push_of(alloc, text, "late-deadline", certificate, required),
     }
 }
 
-// Adds a verdict on so many pages.
-fn push_required(
+/// Adds a verdict on so many pages.
+pub fn push_required(
     alloc: Global,
     text: &mut String,
     certificate: &Certificate,
@@ -81,7 +66,7 @@ fn push_required(
     ensures { OnOk result (string_bytes text.new ≡ string_bytes text.old ++ rule.required_record (fields_of certificate.now) pages verdict) }
 {
     match verdict {
-        RequiredVerdict::Yes => push_yes(alloc, text, certificate, pages),
+        RequiredVerdict::Yes => push_yes(alloc, text, certificate, pages, &[]),
         RequiredVerdict::No(reason) => push_reason(alloc, text, reason),
         RequiredVerdict::Unmet(unmet) => push_unmet(alloc, text, unmet),
     }

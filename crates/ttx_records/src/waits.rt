@@ -1,11 +1,12 @@
 //! How long viewers wait.
 
-ghost use Rattle.std.specs.Prelude.{◌≡◌, ◌++◌, ◌*◌, [], Some, IfOk, OnOk, map, string_bytes};
+ghost use Rattle.std.specs.Prelude.{◌≡◌, ◌++◌, ◌*◌, IfOk, OnOk, map, string_bytes};
 ghost use Rattle.ttx_json.specs.Members.{member_of};
 ghost use Rattle.ttx_records.specs.Names.{line};
 ghost use Rattle.ttx_records.specs.Waits as rule;
 ghost use Rattle.ttx_wait.specs.WaitLines.{seconds_text};
 
+use crate::members::{at, joined, push_joined};
 use crate::names::{id_text, item_name};
 use std::alloc::{AllocError, Global};
 use ttx_header::PageId;
@@ -36,11 +37,8 @@ fn push_beside(
     match beside {
         None => push_object(alloc, text, first),
         Some(beside) => {
-            let mut members = Vec::new(alloc);
-            members.extend_from_slice(first)?;
-            members.push(count("of", u64::from(beside.promise)))?;
-            members.push(flag("late", beside.late))?;
-            push_object(alloc, text, members.as_slice())
+            let (of, late) = (u64::from(beside.promise), flag("late", beside.late));
+            push_joined(alloc, text, first, &[count("of", of), late])
         }
     }
 }
@@ -54,52 +52,7 @@ pub fn seconds_of(alloc: Global, fields: u32) -> Result<String, AllocError>
     Ok(text)
 }
 
-// Adds a page whose viewers wait so many fields, for an item.
-#[tactic(auto, unfolding(crate::specs::Names::line))]
-fn push_needed(
-    alloc: Global,
-    text: &mut String,
-    page: &str,
-    fields: u32,
-    item: Item,
-) -> Result<(), AllocError>
-    ensures { OnOk result (string_bytes text.new ≡ string_bytes text.old
-        ++ line (rule.of_page page.now (rule.fields_members fields ++ rule.needed_by item))) }
-{
-    let seconds = seconds_of(alloc, fields)?;
-    let members = [
-        word("page", page),
-        count("fields", u64::from(fields)),
-        word("seconds", seconds.as_str()),
-        word("needed_by", item_name(item)),
-    ];
-    push_object(alloc, text, &members)
-}
-
-// The same beside a promise.
-#[tactic(auto, unfolding(crate::specs::Names::line))]
-fn push_promised(
-    alloc: Global,
-    text: &mut String,
-    page: &str,
-    fields: u32,
-    beside: Beside,
-) -> Result<(), AllocError>
-    ensures { OnOk result (string_bytes text.new ≡ string_bytes text.old
-        ++ line (rule.of_page page.now (rule.fields_members fields ++ rule.beside_members (Some beside)))) }
-{
-    let seconds = seconds_of(alloc, fields)?;
-    let members = [
-        word("page", page),
-        count("fields", u64::from(fields)),
-        word("seconds", seconds.as_str()),
-        count("of", u64::from(beside.promise)),
-        flag("late", beside.late),
-    ];
-    push_object(alloc, text, &members)
-}
-
-// Either.
+// Adds a page whose viewers wait so many fields, for an item; beside a promise the item is not named.
 fn push_fields(
     alloc: Global,
     text: &mut String,
@@ -110,10 +63,31 @@ fn push_fields(
     ensures { OnOk result (string_bytes text.new ≡ string_bytes text.old
         ++ line (rule.of_page page.now (rule.fields_beside wait.0 wait.1 beside))) }
 {
+    let seconds = seconds_of(alloc, wait.0)?;
+    let first = [
+        word("page", page),
+        count("fields", u64::from(wait.0)),
+        word("seconds", seconds.as_str()),
+    ];
     match beside {
-        None => push_needed(alloc, text, page, wait.0, wait.1),
-        Some(beside) => push_promised(alloc, text, page, wait.0, beside),
+        None => push_joined(alloc, text, &first, &[word("needed_by", item_name(wait.1))]),
+        Some(beside) => push_beside(alloc, text, &first, Some(beside)),
     }
+}
+
+// Adds a page that is never seen, with further members.
+fn push_never(
+    alloc: Global,
+    text: &mut String,
+    page: &str,
+    further: &[Member<'static>],
+    beside: Option<Beside>,
+) -> Result<(), AllocError>
+    ensures { OnOk result (string_bytes text.new ≡ string_bytes text.old
+        ++ line (rule.of_page page.now (rule.never (map member_of further.now) ++ rule.beside_members beside))) }
+{
+    let first = joined(alloc, &[word("page", page), flag("never", true)], further)?;
+    push_beside(alloc, text, first.as_slice(), beside)
 }
 
 // Adds a page of which an item has no sure run.
@@ -127,17 +101,13 @@ fn push_unsure(
     ensures { OnOk result (string_bytes text.new ≡ string_bytes text.old
         ++ line (rule.of_page page.now (rule.wait_unsure wait.0 wait.1 ++ rule.beside_members beside))) }
 {
-    let item = item_name(wait.0);
-    let losses = wait.1;
-    let first = [
-        word("page", page),
-        flag("never", true),
-        word("needed_by", item),
-        count("sent", losses.sent as u64),
-        count("near", losses.near as u64),
-        count("cut", losses.cut as u64),
+    let further = [
+        word("needed_by", item_name(wait.0)),
+        count("sent", wait.1.sent as u64),
+        count("near", wait.1.near as u64),
+        count("cut", wait.1.cut as u64),
     ];
-    push_beside(alloc, text, &first, beside)
+    push_never(alloc, text, page, &further, beside)
 }
 
 // Adds a page that is not sent unchanged, as a slot shows.
@@ -151,49 +121,8 @@ fn push_faulty_at(
     ensures { OnOk result (string_bytes text.new ≡ string_bytes text.old
         ++ line (rule.of_page page.now (rule.at fault.entry.0.now fault.entry.1 ++ rule.beside_members beside))) }
 {
-    let first = [
-        word("page", page),
-        flag("never", true),
-        word("name", fault.0),
-        count("slot", u64::from(fault.1)),
-    ];
-    push_beside(alloc, text, &first, beside)
-}
-
-// Adds a page that is never seen, for no reason that is named.
-fn push_never(
-    alloc: Global,
-    text: &mut String,
-    page: &str,
-    beside: Option<Beside>,
-) -> Result<(), AllocError>
-    ensures { OnOk result (string_bytes text.new ≡ string_bytes text.old
-        ++ line (rule.of_page page.now (rule.never [] ++ rule.beside_members beside))) }
-{
-    push_beside(
-        alloc,
-        text,
-        &[word("page", page), flag("never", true)],
-        beside,
-    )
-}
-
-// Adds a page without a header.
-fn push_no_header(
-    alloc: Global,
-    text: &mut String,
-    page: &str,
-    beside: Option<Beside>,
-) -> Result<(), AllocError>
-    ensures { OnOk result (string_bytes text.new ≡ string_bytes text.old
-        ++ line (rule.of_page page.now (rule.no_header ++ rule.beside_members beside))) }
-{
-    let first = [
-        word("page", page),
-        flag("never", true),
-        word("name", "no-header"),
-    ];
-    push_beside(alloc, text, &first, beside)
+    let further = [word("name", fault.0), at(fault.1)];
+    push_never(alloc, text, page, &further, beside)
 }
 
 // Adds a page that is not sent unchanged.
@@ -208,7 +137,9 @@ fn push_faulty(
         ++ line (rule.of_page page.now (rule.fault_members reason ++ rule.beside_members beside))) }
 {
     match reason {
-        Reason::NoHeader { page: _ } => push_no_header(alloc, text, page, beside),
+        Reason::NoHeader { page: _ } => {
+            push_never(alloc, text, page, &[word("name", "no-header")], beside)
+        }
         Reason::OtherSubpage { page: _, slot } => {
             push_faulty_at(alloc, text, page, ("other-subpage", slot), beside)
         }
@@ -224,7 +155,7 @@ fn push_faulty(
         Reason::LinksDiffer { page: _, slot } => {
             push_faulty_at(alloc, text, page, ("links-differ", slot), beside)
         }
-        _ => push_never(alloc, text, page, beside),
+        _ => push_never(alloc, text, page, &[], beside),
     }
 }
 
@@ -303,7 +234,7 @@ pub fn push_all(
     match (bad, deadline) {
         (Some(slot), _) => push_faulty_at(alloc, text, "all", ("bad-slot", slot), None),
         (None, Some(fields)) => push_deadline(alloc, text, fields),
-        (None, None) => push_never(alloc, text, "all", None),
+        (None, None) => push_never(alloc, text, "all", &[], None),
     }
 }
 

@@ -20,7 +20,7 @@ use Rattle.ttx_source.specs.Promises.{PromiseFields}
 use Rattle.ttx_source.specs.Services.{ServiceFields, authored_ids, pages_of}
 use Rattle.ttx_report.specs.declared.reports.Findings.{Findings}
 use Rattle.ttx_wait.specs.Reports.{IsFirstBad}
-use Rattle.ttx_witness.specs.Entries.{CertificateFields, certificate_at}
+use Rattle.ttx_certificate.specs.Entries.{CertificateFields, certificate_at}
 
 unfoldable pub head_html : List ℕ
 head_html = start_html (codes "Report on a teletext carousel") ++ style ++ body_html (codes "Report on a teletext carousel")

@@ -14,7 +14,7 @@ use Rattle.ttx_document.specs.Frames.{heading_html}
 use Rattle.ttx_page.specs.declared.class.Class.{Class}
 use Rattle.ttx_page.specs.declared.class.Class.TheVariants.{Any, Clearing}
 use Rattle.ttx_wait.specs.WaitLines.{seconds_text}
-use Rattle.ttx_witness.specs.Entries.{CertificateFields}
+use Rattle.ttx_certificate.specs.Entries.{CertificateFields}
 
 unfoldable pub receivers_text : Class → List ℕ
 receivers_text Any = codes "every receiver that keeps the rules"

@@ -10,7 +10,7 @@ ghost use Rattle.ttx_report.specs.Reports as rule;
 ghost use Rattle.ttx_report.specs.Waits.{waits_told};
 ghost use Rattle.ttx_source.specs.PromiseViews.{promise_view};
 ghost use Rattle.ttx_source.specs.Services.{authored_ids, pages_of};
-ghost use Rattle.ttx_witness.specs.Certificates.{fields_of};
+ghost use Rattle.ttx_certificate.specs.Certificates.{fields_of};
 ghost use Rattle.ttx_witness.specs.laws.WaitLaws.{greatest as greatest_told};
 
 use crate::files::{Marks, Sizes, push_date, push_files, push_version};

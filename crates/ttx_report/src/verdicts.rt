@@ -3,7 +3,7 @@
 ghost use Rattle.std.specs.Prelude.{◌≡◌, ◌++◌, OnOk, string_bytes};
 ghost use Rattle.ttx_certify.specs.VerdictLines.{verdict_line};
 ghost use Rattle.ttx_report.specs.Verdicts as rule;
-ghost use Rattle.ttx_witness.specs.Certificates.{fields_of};
+ghost use Rattle.ttx_certificate.specs.Certificates.{fields_of};
 
 use std::alloc::AllocError;
 use ttx_certify::Verdict;

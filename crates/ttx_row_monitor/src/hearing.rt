@@ -7,7 +7,7 @@ ghost use Rattle.ttx_cycle.specs.Counters.{inner_of, faults_of};
 ghost use Rattle.ttx_cycle.specs.Cycles.{slots_of};
 ghost use Rattle.ttx_cycle.specs.Files.{IsCycle};
 ghost use Rattle.ttx_source.specs.Services.{pages_of};
-ghost use Rattle.ttx_witness.specs.Certificates.{certificate_of};
+ghost use Rattle.ttx_certificate.specs.Certificates.{certificate_of};
 ghost use Rattle.ttx_witness.specs.Coverage as coverage;
 ghost use Rattle.ttx_files.specs.Devices.{AtFeed, input, IsFirstFailure};
 ghost use Rattle.ttx_files.specs.Feeds.{failed_at};

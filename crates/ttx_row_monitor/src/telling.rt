@@ -6,7 +6,7 @@ ghost use Rattle.ttx_cycle.specs.Cycles.{slots_of};
 ghost use Rattle.ttx_files.specs.Devices.{AtFeed, input, IsFirstFailure};
 ghost use Rattle.ttx_files.specs.Feeds.{failed_at};
 ghost use Rattle.ttx_source.specs.Services.{pages_of};
-ghost use Rattle.ttx_witness.specs.Certificates.{certificate_of};
+ghost use Rattle.ttx_certificate.specs.Certificates.{certificate_of};
 ghost use Rattle.ttx_row_monitor.specs.RowLines.{IsRowTold};
 
 use crate::hearing::watch;

@@ -36,7 +36,7 @@ use Rattle.ttx_late.specs.declared.verdict.LateVerdict.TheVariants.{Yes, No, Nev
 use Rattle.ttx_certify.specs.declared.verdict.Verdict.TheVariants as certify
 use Rattle.ttx_rows.specs.RowVerdicts.{VerdictsMeanByRows, LateVerdictsMeanByRows, FilesMeanByRows, LateFilesMeanByRows}
 use Rattle.ttx_source.specs.Services.{pages_of}
-use Rattle.ttx_witness.specs.Entries.{certificate_at}
+use Rattle.ttx_certificate.specs.Entries.{certificate_at}
 use Rattle.ttx_rows.proofs.OneSlot.{LawsBelow}
 use Rattle.ttx_rows.proofs.OtherStream.{MayDiffer, HaveSameTests, same_texts, same_tests, kept_steady, moved_steady, moved_brought, moved_followed}
 use Rattle.ttx_rows.proofs.ManySlots.{EachHeadArrives, received_is_by_rows, runs_are_row_runs, late_row_run, mag_is, head_bytes}

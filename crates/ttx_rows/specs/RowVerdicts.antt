@@ -9,7 +9,7 @@ use Rattle.ttx_page.specs.Pages.{Page}
 use Rattle.ttx_witness.specs.Coverage.{Certificate, IsCertificate}
 use Rattle.ttx_cycle.specs.Files.{IsCycle}
 use Rattle.ttx_source.specs.Services.{pages_of}
-use Rattle.ttx_witness.specs.Entries.{certificate_at}
+use Rattle.ttx_certificate.specs.Entries.{certificate_at}
 use Rattle.ttx_certify.specs.CertifyingFiles.{Certifies}
 use Rattle.ttx_certify.specs.Laws.{ArePages}
 use Rattle.ttx_certify.specs.Verdicts.{IsVerdict}

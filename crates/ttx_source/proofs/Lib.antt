@@ -2,6 +2,7 @@ mod Sequences
 mod Plain
 mod RowTable
 mod RowValues
+mod RowKeys
 mod LinkArray
 mod PageList
 mod PageArray

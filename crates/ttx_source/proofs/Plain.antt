@@ -1,9 +1,8 @@
 -- Texts: in a text of codes below 128 each character is one byte, and some bytes are not a text.
-use Rattle.std.proofs.Common.{◌≡◌, ◌∙◌, ◌<◌, ◌≤◌, ◌+◌, ◌-◌, ◌*◌, ◌++◌, ◌&&◌, Bool, true, length, List, ℕ, zero, suc, nat_lt, bit_or, replicate, []}
+use Rattle.std.proofs.Common.{◌≡◌, ◌<◌, ◌≤◌, ◌+◌, ◌-◌, ◌*◌, ◌&&◌, true, length, List, ℕ, zero, suc, nat_lt, bit_or, []}
 use Rattle.std.proofs.Common.{◌∷◌, arith, ap, refl, false, inl, inr}
 use Rattle.std.specs.List.{list_all}
 use Rattle.std.specs.Str.{chars, chars_after, continuation_len, lead_bits, IsAscii, IsUtf8, is_utf8}
-use Rattle.std.proofs.lemmas.List.Folds.{list_all-append}
 use Rattle.std.proofs.lemmas.Bool.{agree_below, agree_below_at, and_parts, cases_Bool}
 use Rattle.std.proofs.lemmas.Bool.Decides.{nat_tests}
 use Rattle.std.proofs.lemmas.Str.{chars-IsAscii, IsUtf8-from_is_utf8}
@@ -27,21 +26,6 @@ pub small_union : (a b : ℕ) → a < 256 → b < 256 → nat_lt (bit_or a b) 12
 small_union a b la lb =
     agree_below_at (λ b. nat_lt (bit_or a b) 128) (λ b. nat_lt a 128 && nat_lt b 128) 256 b
     (agree_below_at (λ a. agree_below (λ b. nat_lt (bit_or a b) 128) (λ b. nat_lt a 128 && nat_lt b 128) 256) (λ _. true) 256 a unions la) lb
-
--- spaces at the end do not change the test for codes below 128
-spaces_are_plain : (n : ℕ) → list_all (λ b. nat_lt b 128) (replicate n 32) ≡ true
-spaces_are_plain zero = refl
-spaces_are_plain (suc n) = spaces_are_plain n
-
-and_true : (b : Bool) → (b && true) ≡ b
-and_true true = refl
-and_true false = refl
-
-pub plain_padded : (bs : List ℕ) (n : ℕ) → list_all (λ b. nat_lt b 128) (bs ++ replicate n 32) ≡ list_all (λ b. nat_lt b 128) bs
-plain_padded bs n =
-    list_all-append (λ b. nat_lt b 128) bs (replicate n 32)
-    ∙ ap (λ t. list_all (λ b. nat_lt b 128) bs && t) (spaces_are_plain n)
-    ∙ and_true _
 
 -- a text does not have more characters than bytes
 chars_after_le : (n c : ℕ) (bs : List ℕ) → length (chars_after n c bs) ≤ length bs + 1

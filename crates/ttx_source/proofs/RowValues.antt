@@ -3,13 +3,12 @@ use Rattle.std.proofs.Common.{◌≡◌, ◌≢◌, ◌∙◌, ◌==◌, ◌<◌
 use Rattle.std.proofs.Common.{map, Option, Some, None, String, string_bytes, Global, nat_cmp, Bool, false}
 use Rattle.std.proofs.Common.{Ordering, Less, Equal, Greater, is_eq, ap, sym}
 use Rattle.std.proofs.Common.{refl, true, if◌then◌else◌, get_or, set, get_or-set_same, get_or-set_other}
-use Rattle.std.proofs.Common.{inl, inr, arith, is_some, Bor, subst, IfSome}
+use Rattle.std.proofs.Common.{inl, inr, arith, is_some, Bor, subst}
 use Rattle.std.specs.Cmp.Lexicographic.{slice_cmp}
 use Rattle.std.specs.List.{AllByRecursion, list_any, position, position_from}
 use Rattle.std.specs.List.Sorted.{IsStrictlySortedBy}
 use Rattle.std.specs.Map.{keys_of}
 use Rattle.std.specs.Ordering.{match_ordering}
-use Rattle.std.specs.Str.{bytes_eq}
 use Rattle.std.specs.String.{string_cmp}
 use Rattle.std.proofs.lemmas.Bool.{cases_Bool}
 use Rattle.std.proofs.lemmas.Bool.Decides.{nat_tests}
@@ -17,7 +16,6 @@ use Rattle.std.proofs.lemmas.Cmp.{nat_list_cmp_total, tied_itself}
 use Rattle.std.proofs.lemmas.Iterator.Adapters.{position_from-zero}
 use Rattle.std.proofs.lemmas.List.{get_or-map, ext_get_or, length-map}
 use Rattle.std.proofs.lemmas.List.FromFn.{get_or-range_with_len}
-use Rattle.std.proofs.lemmas.List.Quantifiers.{position-Some}
 use Rattle.std.proofs.lemmas.Map.Text.{is_eq-slice_cmp}
 use Rattle.std.proofs.lemmas.Slice.Eq.{bytes_eq-Decides}
 use Rattle.toml.specs.Data.{Data, Members, no_members, member, get_member, same_key}
@@ -95,11 +93,11 @@ as_many : (f : List ℕ → Option Data) → 24 ≡ length (map f row_keys)
 unfolding row_keys
 as_many f = refl
 
-row_count : length row_keys ≡ 24
+pub row_count : length row_keys ≡ 24
 unfolding row_keys
 row_count = refl
 
-row_here : (r : ℕ) → r < 24 → r < length row_keys
+pub row_here : (r : ℕ) → r < 24 → r < length row_keys
 unfolding row_keys
 row_here r here = here
 
@@ -126,18 +124,6 @@ is_some-position {A = A} p xs = ap is_some (position_from-zero p xs) ∙ found 0
           | inl passes ↦ rw passes refl
           | inr fails ↦ rw fails (found (n + 1) xs)
         ]
-
--- the row at a position among the keys
-pub row_placed : (keys : List (Bor (List ℕ))) (key : List ℕ) (place : Option ℕ) → map (λ name. name.now) keys ≡ row_keys
-    → place ≡ position (λ name. bytes_eq name.now key) keys → IfSome place (λ i. (i < 24) × (get_or row_keys i [] ≡ key))
-row_placed keys key None same at = tt
-row_placed keys key (Some i) same at =
-    let none : Bor (List ℕ) = record { ref_ptr = (0, 0); now = [] } in
-    let (inside, passes, first) = position-Some (λ (name : Bor (List ℕ)). bytes_eq name.now key) keys i none (sym at) in (
-      subst (λ n. i < n) (sym (length-map keys (λ name. name.now)) ∙ ap length same ∙ row_count) inside,
-      subst (λ rows. get_or rows i [] ≡ (get_or keys i none).now) same (get_or-map (λ name. name.now) keys i none [] inside)
-          ∙ (bytes_eq-Decides (get_or keys i none).now key).0 passes,
-    )
 
 pub keys_more : (k : List ℕ) (v : Data) (table : Members) → is_row_key k ≡ true → keys_pass is_row_key (member k v table) ≡ keys_pass is_row_key table
 keys_more k v table h = rw h

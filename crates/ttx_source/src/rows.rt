@@ -1,8 +1,6 @@
 //! The rows of a page.
 
-ghost use Rattle.std.specs.Prelude.{◌≡◌, ◌<◌, [], map, option_map, is_some, replicate, slice_index_or, codes, IfOk, IfSome};
-ghost use Rattle.std.specs.List.{position};
-ghost use Rattle.std.specs.Str.{bytes_eq};
+ghost use Rattle.std.specs.Prelude.{◌≡◌, ◌<◌, [], map, option_map, is_some, replicate, slice_index_or, IfOk, IfSome};
 ghost use Rattle.toml.specs.View.{table_view, view};
 ghost use Rattle.ttx_page.specs.Pages.{IsRow};
 ghost use Rattle.ttx_source.specs.Keys as rule;
@@ -14,24 +12,18 @@ use crate::keys::Key;
 use crate::texts::characters;
 use crate::values::{member, table_of, text_of};
 use toml::{Table, Value};
-
-static ROW_KEYS: [&str; 24] = [
-    "1", "2", "3", "4", "5", "6", "7", "8", "9", "10", "11", "12", "13", "14", "15", "16", "17",
-    "18", "19", "20", "21", "22", "23", "24",
-];
-
-fn place_among(keys: &[&str], key: &str) -> Option<usize>
-    ensures { result ≡ position (λ name. bytes_eq name.now key.now) keys.now }
-{
-    keys.iter().position(|name| *name == key)
-}
+use ttx_digits::number;
 
 // The index of a row's key, 0 to 23; `None` if the key is not the number of a row, 1 to 24.
 fn row_index(key: &str) -> Option<usize>
     ensures among { is_some result ≡ rule.is_row_key key.now }
     ensures place { IfSome result (λ i. (i < 24) × (slice_index_or rule.row_keys i [] ≡ key.now)) }
 {
-    place_among(ROW_KEYS.as_slice(), key)
+    ttx_digits::laws::read_numbers_are_written();
+    match number(key.as_bytes()) {
+        Some(row) if 1 <= row && row <= 24 => Some(row as usize - 1),
+        _ => None,
+    }
 }
 
 fn blank_row() -> [u8; 40]

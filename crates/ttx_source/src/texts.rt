@@ -64,9 +64,8 @@ pub fn characters<const N: usize>(text: &str) -> Result<[u8; N], KeyFault>
     if bytes.len() > N {
         return Err(long_fault(text, N));
     }
-    let codes = padded::<N>(bytes);
-    if is_plain(&codes) {
-        Ok(codes)
+    if is_plain(bytes) {
+        Ok(padded::<N>(bytes))
     } else {
         Err(KeyFault::Character)
     }

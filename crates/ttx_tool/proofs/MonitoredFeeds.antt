@@ -13,7 +13,7 @@ use Rattle.ttx_files.specs.declared.readers.Inputs.{Inputs}
 use Rattle.ttx_files.specs.declared.told.Told.{Told}
 use Rattle.ttx_page.specs.Pages.{Page}
 use Rattle.ttx_source.specs.Services.{ServiceFields, pages_of}
-use Rattle.ttx_witness.specs.Certificates.{certificate_of}
+use Rattle.ttx_certificate.specs.Certificates.{certificate_of}
 use Rattle.ttx_monitor.specs.FeedVerdicts.{IsFeedVerdict}
 use Rattle.ttx_monitor.specs.FeedReports.{telling_for, ReportsFeed}
 use Rattle.ttx_monitor.specs.Wordings.{sum_text}

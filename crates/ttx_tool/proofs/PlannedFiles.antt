@@ -20,11 +20,11 @@ use Rattle.ttx_tool.specs.Find.{TellsFound, IsFinding}
 use Rattle.ttx_tool.specs.PlannedFiles as T
 use Rattle.ttx_tool.specs.PlannedFiles.{IsCertified, FoundIsCertified, SaysYes, LateIsCertified, FindsDeadline, MakesCertified}
 use Rattle.ttx_tool.proofs.SameInputs.{same_slots, same_ok}
-use Rattle.ttx_witness.specs.CertificateLaws.{WrittenTextsAreRead}
-use Rattle.ttx_witness.specs.CertificateReading.{read_text}
-use Rattle.ttx_witness.specs.CertificateTexts.{certificate_text}
+use Rattle.ttx_certificate.specs.CertificateLaws.{WrittenTextsAreRead}
+use Rattle.ttx_certificate.specs.CertificateReading.{read_text}
+use Rattle.ttx_certificate.specs.CertificateTexts.{certificate_text}
 use Rattle.ttx_witness.specs.Coverage.{Accepts}
-use Rattle.ttx_witness.specs.Entries.{CertificateFields, certificate_at}
+use Rattle.ttx_certificate.specs.Entries.{CertificateFields, certificate_at}
 use Rattle.ttx_witness.specs.finding.Finding.{IsFoundFor}
 
 -- where there is a deadline the status is 0

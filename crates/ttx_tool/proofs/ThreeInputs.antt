@@ -6,7 +6,7 @@ use Rattle.ttx_page.specs.declared.class.Class.TheVariants.{Any}
 use Rattle.ttx_source.specs.Services.{ServiceFields, pages_of}
 use Rattle.ttx_tool.specs.Refute.{TellsAnswer, IsRefutation}
 use Rattle.ttx_tool.specs.declared.commands.refute.Asked.{Asked}
-use Rattle.ttx_witness.specs.Entries.{CertificateFields}
+use Rattle.ttx_certificate.specs.Entries.{CertificateFields}
 use Rattle.ttx_witness.specs.finding.Finding.{IsSentUnchanged, CanBeAccepted}
 
 -- three facts of an answer

@@ -24,8 +24,8 @@ use Rattle.ttx_page.specs.declared.class.Class.{Class}
 use Rattle.ttx_source.specs.Services.{ServiceFields, pages_of}
 use Rattle.ttx_tool.specs.declared.faults.ToolFault.{ToolFault}
 use Rattle.ttx_tool.specs.declared.faults.ToolFault.TheVariants.{Files}
-use Rattle.ttx_witness.specs.CertificateTexts.{certificate_text}
-use Rattle.ttx_witness.specs.Entries.{CertificateFields, IsCertificateFields, certificate_at}
+use Rattle.ttx_certificate.specs.CertificateTexts.{certificate_text}
+use Rattle.ttx_certificate.specs.Entries.{CertificateFields, IsCertificateFields, certificate_at}
 use Rattle.ttx_witness.specs.finding.Finding.{IsFoundFor}
 use Rattle.ttx_witness.specs.declared.faults.reason.Reason.{Reason}
 

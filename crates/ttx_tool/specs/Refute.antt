@@ -30,7 +30,7 @@ use Rattle.ttx_tool.specs.declared.commands.refute.Asked.{Asked}
 use Rattle.ttx_tool.specs.declared.faults.ToolFault.{ToolFault}
 use Rattle.ttx_tool.specs.declared.faults.ToolFault.TheVariants.{Files, Class}
 use Rattle.ttx_digits.specs.PageIds.{id_text}
-use Rattle.ttx_witness.specs.Entries.{CertificateFields, certificate_at}
+use Rattle.ttx_certificate.specs.Entries.{CertificateFields, certificate_at}
 use Rattle.ttx_witness.specs.finding.Finding.{IsSentUnchanged, CanBeAccepted}
 
 -- the page, the first slot and how many, and how many wrong bits and choices

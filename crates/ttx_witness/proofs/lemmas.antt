@@ -1,9 +1,8 @@
 pub mod WholeNumbers
-pub mod ChangedPlaces
+pub mod GrownLists
 pub mod runs
 pub mod sent
 pub mod faults
-pub mod passes
 pub mod finding
 pub mod waiting
 pub mod laws

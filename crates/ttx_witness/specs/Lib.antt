@@ -1,16 +1,8 @@
 pub mod Coverage
+pub mod Elements
 pub mod runs
 pub mod sent
 pub mod faults
-pub mod passes
 pub mod finding
 pub mod waiting
 pub mod laws
-pub use Rattle.ttx_certificate.specs.Entries
-pub use Rattle.ttx_certificate.specs.EntryViews
-pub use Rattle.ttx_certificate.specs.Certificates
-pub use Rattle.ttx_certificate.specs.CertificateLaws
-pub use Rattle.ttx_certificate.specs.CertificateTexts
-pub use Rattle.ttx_certificate.specs.CertificateReading
-pub use Rattle.ttx_certificate.specs.WrittenEntries
-pub use Rattle.ttx_certificate.specs.ReadingAnswers

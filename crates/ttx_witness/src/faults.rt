@@ -1,7 +1,6 @@
 //! Why a cycle is not accepted: bad slots, and slots that differ from a page.
 
 pub mod bad_slots;
-pub mod collected_faults;
 pub mod comparing;
 pub mod first_slots;
 pub mod other_subpages;

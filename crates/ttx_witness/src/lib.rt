@@ -1,51 +1,47 @@
 //! When a cycle is accepted with a certificate, why it is not, and the certificate with the least deadline.
 //!
-//! The path of the data: slots come in, of a whole cycle or one by one in two passes. `sent` turns them into the transmissions of
-//! each item of each page in one period. `runs` makes runs of these, and compares them with named starts or finds all starts of
-//! sure runs. The results are starts with a deadline (`finding`), waits (`waiting`) or what is wrong (`faults`, `passes`).
+//! The path of the data: slots come in. `sent` turns them into the transmissions of each item of each page in one period. `runs` makes
+//! runs of these, and compares them with named starts or finds all starts of sure runs. The results are starts with a deadline
+//! (`finding`), waits (`waiting`) or what is wrong (`faults`).
 //!
 //! - `runs`: transmissions of one item, as numbers; the runs they make, and which of them confirm a named start.
 //! - `sent`: what the slots of a period send, under which header, item by item for all pages.
 //! - `faults`: why a cycle is not accepted: bad slots, and slots that differ from a page.
-//! - `passes`: the same for slots that come one by one, twice, without keeping them.
 //! - `finding`: the starts to name, and the least deadline.
 //! - `waiting`: the least deadline of each page and of each item.
 //! - `laws`: what holds for one period holds for the endless stream. Each law is a public call with an empty body.
 //!
-//! Three choices:
+//! Two choices:
 //! - `find` names every start of a sure run. A further start never hurts, so its deadline is the least of any certificate with the same
 //!   class, lines and repeat count. To name starts for a blank item of class clearing is never better than to leave its entry out.
 //! - `judge_item` holds a window of transmissions in an `ArrayVec` and allocates nothing. The search of `find` holds a ring
 //!   (`circular_buffer`) as long as a run, which is allocated before the first transmission.
-//! - The second pass records what each slot sends: the item, its header, whether it is sure, and the next slot of the same item, 28 bytes
-//!   a slot, 1.8 MB for the 65,536 slots of the longest cycle, allocated before the first slot. It keeps no packet. A window for each item
-//!   would take more: a run may go round the end of the period, so an item needs its last k transmissions, its first k - 1 and its
-//!   progress, 232 bytes, 11.1 MB for 2,000 pages of 24 items.
 #![tactic(auto)]
 
 mod faults;
 mod finding;
 pub mod laws;
-mod passes;
 mod runs;
 mod sent;
 mod waiting;
 
 pub use faults::bad_slots::bad_slot;
-pub use faults::collected_faults::fault_of;
 pub use faults::comparing::{Check, is_wrong, same_links};
-pub use faults::other_subpages::OtherSubpages;
-pub use faults::page_faults::page_fault;
-pub use faults::reason::Reason;
-pub use finding::certificates::{Found, find, find_for};
+pub use faults::other_subpages::{OtherSubpages, first_of, none_told, note_slot};
+pub use faults::page_faults::{fault_of, page_fault};
+pub use faults::reason::{PageFault, Reason};
+pub use faults::{first_slots, subcodes};
+pub use finding::certificates::{Found, faults_in, find, find_for, find_in};
+pub use finding::survey::Survey;
 pub use laws::{cycle_laws, fault_laws, judging_laws, late_laws, sure_items, wait_laws};
-pub use passes::ending::EndedPass;
-pub use passes::passing::{Pass, SecondPass, WalkFault};
 pub use runs::confirming::{Progress, late_at_end};
-pub use runs::one_item::judge_item;
+pub use runs::named_starts;
+pub use runs::one_item::{judge_item, nothing_confirmed};
 pub use runs::transmissions::Transmission;
 pub use sent::collected::Collected;
 pub use sent::collecting::{collect, collect_after};
+pub use sent::one_slot;
+pub use sent::owners::{Owner, note_owner};
 pub use sent::packets::{header_in, heads_page, mine_after, row_in, sends};
 pub use sent::page_index::{PageIndex, index_of, place_of};
 pub use sent::page_items::{item_of, run_length};

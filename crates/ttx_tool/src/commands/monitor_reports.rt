@@ -7,7 +7,7 @@ ghost use Rattle.ttx_files.specs.Devices.{AtCycle, AtService, AtCertificate, AtF
 ghost use Rattle.ttx_monitor.specs.FeedReports.{ReportsFeed};
 ghost use Rattle.ttx_monitor.specs.Followed.{CountsFollowed, CountsWrites};
 ghost use Rattle.ttx_source.specs.Services.{pages_of};
-ghost use Rattle.ttx_witness.specs.Certificates.{certificate_of};
+ghost use Rattle.ttx_certificate.specs.Certificates.{certificate_of};
 ghost use Rattle.ttx_tool.specs.Devices.{Fails, read_from, written_to};
 ghost use Rattle.ttx_tool.specs.MonitorReports.{report_status, report_words, IsReportedAs, MonitorsLines, MeansReported};
 

@@ -1,7 +1,7 @@
 pub mod NoFault
 pub mod FirstSlots
 pub mod OverOnePeriod
-pub mod FirstWrongSent
+pub mod CollectedSlots
 pub mod PageSubcodes
 pub mod OtherSubpages
 pub mod SentBytes

@@ -9,5 +9,6 @@ pub mod OwnersAfterSlot
 pub mod AllLists
 pub mod ListsInPlaces
 pub mod PacketKinds
+pub mod NumbersSent
 pub mod ItemPlaces
 pub mod RunLengths

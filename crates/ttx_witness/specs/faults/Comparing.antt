@@ -3,23 +3,23 @@
 --   HoldsHeader, HoldsNoHeader      the packet is this header; it is no header
 --   HoldsRow, HoldsNoRow, HoldsLinks, HoldsNoLinks  the same for rows and links
 --   mine_after, sends       whether the magazine's latest header is the page's after a slot; whether a slot sends an item
---   is_mine                 whether an owner is a header of the page
+--   is_mine, is_number_of   whether an owner is a header of the page; whether a number is that of an item
 --   heads_other_subpage        a header of the page's number with another subcode
 --   Check, compared_item    what is compared, and the item in whose transmissions
---   IsWrong, WrongAt, RowWrongAt, OtherHeaderAt, IsWrongIn  a slot that differs from the page
-use Rattle.std.specs.Prelude.{◌≡◌, ℕ, ℤ, pos, ◌<ℤ◌, ◌≤ℤ◌, unsigned_abs, [], length, slice_index_or, Bool, true, false, not, ◌&&◌}
-use Rattle.std.specs.Prelude.{if◌then◌else◌, List, Option, Some, None, take, drop}
+--   IsWrong, WrongAt, OtherHeaderAt         a slot that differs from the page
+use Rattle.std.specs.Prelude.{◌≡◌, ℕ, ℤ, Bool, true, false, not, ◌&&◌, ◌==◌, if◌then◌else◌, List, Option, Some, None, take, drop}
 use Rattle.ttx_packet.specs.declared.place.Address.{Address}
 use Rattle.ttx_header.specs.Ids.{Id}
 use Rattle.ttx_header.specs.Fields.{HeaderFields}
 use Rattle.ttx_links.specs.Sets.{links_of}
 use Rattle.ttx_page.specs.Packets.{Packet, Header, Row, Links, packet_of}
-use Rattle.ttx_page.specs.Pages.{Page, needed}
+use Rattle.ttx_page.specs.Pages.{Page}
 use Rattle.ttx_page.specs.declared.selection.Selection.TheVariants.{AnySub}
 use Rattle.ttx_page.specs.declared.item.Item.{Item}
 use Rattle.ttx_page.specs.declared.item.Item.TheVariants.{Head as TheHead, Row as TheRow, Links as TheLinks}
 use Rattle.ttx_page.specs.Streams.{Stream, heads, heads_page, heads_matched, carries, IsTransmission}
 use Rattle.ttx_page.specs.Steady.{erases_page, IsLikeHead, RowIsRight, LinksAreRight}
+use Rattle.ttx_witness.specs.sent.Collected.{item_number}
 use Rattle.ttx_witness.specs.sent.ItemTransmissions.{PageOwner}
 use Rattle.ttx_witness.specs.declared.faults.comparing.Check.{Check}
 use Rattle.ttx_witness.specs.declared.faults.comparing.Check.TheVariants.{EraseBit, Head as CheckHead, Row as CheckRow, Links as CheckLinks}
@@ -64,6 +64,10 @@ abbrev pub is_mine : Option PageOwner → Bool
 is_mine None = false
 is_mine (Some owner) = owner.mine
 
+abbrev pub is_number_of : Item → Option ℕ → Bool
+is_number_of item None = false
+is_number_of item (Some number) = item_number item == number
+
 abbrev pub heads_other_subpage : Id → Packet → Bool
 heads_other_subpage page packet = heads_matched (AnySub page.mag page.page) packet && not (heads_page page packet)
 
@@ -88,14 +92,3 @@ pub record WrongAt (s : Stream) (p : Page) (check : Check) (j : ℤ) : Type 0 wh
 pub record OtherHeaderAt (s : Stream) (page : Id) (j : ℤ) : Type 0 where
   pub number : heads_matched (AnySub page.mag page.page) (packet_of (s j)) ≡ true
   pub other : heads_page page (packet_of (s j)) ≡ false
-
--- a viewer sees row r, and the slot sends something else for it
-pub record RowWrongAt (s : Stream) (p : Page) (r : ℕ) (j : ℤ) : Type 0 where
-  pub needed : needed p (TheRow r) ≡ true
-  pub wrong : WrongAt s p (CheckRow r) j
-
--- the slot is in the period and differs from the page
-pub record IsWrongIn (cycle : List (List ℕ)) (p : Page) (check : Check) (slot : ℤ) : Type 0 where
-  pub from : pos 0 ≤ℤ slot
-  pub to : slot <ℤ pos (length cycle)
-  pub wrong : IsWrong p check (slice_index_or cycle (unsigned_abs slot) [])

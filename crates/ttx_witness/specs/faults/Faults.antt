@@ -2,12 +2,13 @@
 --
 --   IsFirstAt, Never, TellsFirst    the first slot of the period where a property holds; it holds at no slot
 --   IsPageFault             the first of reasons 2 to 7, which concern only a page and a cycle
---   AreFirst, earlier       the first slot for each reason; the earlier of two slots
+--   HaveFaults, AreFaults   for each of the first pages the first of these reasons; for each page
+--   AreFirst                the first slot for each reason
 --   IsFirstItem, IsFirstStart       the least item, and its least start, for which a property holds
 --   IsWitnessFault          the first of reasons 8 to 10 and 12, which concern named starts
 --   IsFault                 the first of all these
 --   SteadyHasNoFault        a page has no fault if and only if it is steady
-use Rattle.std.specs.Prelude.{◌≡◌, ◌⊎◌, ◌↔◌, ℕ, ◌<◌, ℤ, pos, true, if◌then◌else◌, nat_le, List, length, Option, Some, None, IsTrue}
+use Rattle.std.specs.Prelude.{◌≡◌, ◌⊎◌, ◌↔◌, ℕ, ◌<◌, ℤ, pos, true, List, length, slice_get, Option, Some, None, IsTrue}
 use Rattle.ttx_page.specs.Pages.{Page, needed}
 use Rattle.ttx_page.specs.declared.item.Item.{Item}
 use Rattle.ttx_page.specs.Streams.{repeated}
@@ -17,6 +18,7 @@ use Rattle.ttx_witness.specs.Coverage.{Certificate, IsCovered, IsLeftOut}
 use Rattle.ttx_witness.specs.faults.Reasons.{HasNoWitness, WitnessBadAt, LateAt, LateBlankAt}
 use Rattle.ttx_witness.specs.declared.faults.first_slots.FirstSlots.{FirstSlots}
 use Rattle.ttx_witness.specs.declared.faults.reason.Reason.{Reason}
+use Rattle.ttx_witness.specs.declared.faults.reason.PageFault.{PageFault}
 use Rattle.ttx_witness.specs.declared.faults.reason.Reason.TheVariants.{NoHeader, OtherSubpage, Erased, HeadDiffers, RowDiffers}
 use Rattle.ttx_witness.specs.declared.faults.reason.Reason.TheVariants.{LinksDiffer, NoWitness, WitnessBad, Late, LateBlank}
 
@@ -65,6 +67,16 @@ IsPageFault cycle pages p (Some (LinksDiffer page slot)) =
     × IsFirstAt cycle (LinksDifferAt (repeated cycle) p) slot
 IsPageFault cycle pages p (Some reason) = ⊥
 
+-- the first faults of the first pages, or None
+abbrev pub HaveFaults : List (List ℕ) → List Page → List PageFault → Type 0
+HaveFaults cycle pages faults = (n : ℕ) (p : Page) (fault : PageFault) → slice_get pages n ≡ Some p → slice_get faults n ≡ Some fault →
+    IsPageFault cycle pages p fault.reason
+
+-- those of all pages
+pub record AreFaults (cycle : List (List ℕ)) (pages : List Page) (faults : List PageFault) : Type 0 where
+  pub count : length faults ≡ length pages
+  pub each : HaveFaults cycle pages faults
+
 -- the first slot for each reason
 pub record AreFirst (cycle : List (List ℕ)) (pages : List Page) (p : Page) (first : FirstSlots) : Type 0 where
   pub has_header : IsTrue first.has_header ↔ HasHeader (repeated cycle) p.id
@@ -73,12 +85,6 @@ pub record AreFirst (cycle : List (List ℕ)) (pages : List Page) (p : Page) (fi
   pub head : TellsFirst cycle (HeadDiffersAt (repeated cycle) p) first.head
   pub row : TellsFirst cycle (RowDiffersAt (repeated cycle) p) first.row
   pub links : TellsFirst cycle (LinksDifferAt (repeated cycle) p) first.links
-
--- the earlier of two slots; None stands for no slot
-abbrev pub earlier : Option ℕ → Option ℕ → Option ℕ
-earlier None b = b
-earlier (Some a) None = Some a
-earlier (Some a) (Some b) = Some (if nat_le a b then a else b)
 
 -- P holds for the item, and for no item before it
 pub record IsFirstItem (P : Item → Type 0) (item : Item) : Type 0 where

@@ -3,7 +3,7 @@
 --   survey_slots, survey_pages      the slots of the survey's cycle, and its pages
 --   AreNamedIn              the entries and the least limit after the first items of all pages
 --   AreOthersIn             the headers of other subpages of its pages
---   IsSteadyIn, IsFaultIn   a page is sent unchanged; the first reason why it is not
+--   IsFaultIn, AreFaultsIn  the first reason why a page is not sent unchanged; this reason of each page
 --   surveyed_page           the page
 --   surveyed_starts, surveyed_spread,
 --   surveyed_least        the starts of the sure runs of an item of the page, how far apart these are, the least limit
@@ -11,16 +11,15 @@
 use Rattle.std.specs.Prelude.{ℕ, List, Option, map}
 use Rattle.ttx_cycle.specs.Cycles.{slots_of}
 use Rattle.ttx_page.specs.Pages.{Page}
-use Rattle.ttx_page.specs.Steady.{Steady}
-use Rattle.ttx_page.specs.Streams.{repeated}
 use Rattle.ttx_page.specs.Views.{page_of}
 use Rattle.ttx_page.specs.declared.item.Item.{Item}
 use Rattle.ttx_certificate.specs.declared.entries.Entry.{Entry}
 use Rattle.ttx_witness.specs.runs.SureStarts.{Spread}
-use Rattle.ttx_witness.specs.faults.Faults.{IsPageFault}
+use Rattle.ttx_witness.specs.faults.Faults.{IsPageFault, AreFaults}
 use Rattle.ttx_witness.specs.faults.OtherSubpages.{AreOtherSubpages}
 use Rattle.ttx_witness.specs.declared.faults.other_subpages.OtherSubpages.{OtherSubpages}
 use Rattle.ttx_witness.specs.declared.faults.reason.Reason.{Reason}
+use Rattle.ttx_witness.specs.declared.faults.reason.PageFault.{PageFault}
 use Rattle.ttx_witness.specs.finding.Finding.{starts_of, spread_at, least_limit, starts_for, limit_for, AreNamed}
 use Rattle.ttx_witness.specs.declared.finding.survey.Survey.{Survey}
 use Rattle.ttx_witness.specs.declared.finding.survey.SurveyedPage.{SurveyedPage}
@@ -38,11 +37,11 @@ AreNamedIn s m entries least = AreNamed (survey_slots s) (survey_pages s) s.clas
 abbrev pub AreOthersIn : Survey → OtherSubpages → Type 0
 AreOthersIn s others = AreOtherSubpages (survey_slots s) (survey_pages s) others
 
-abbrev pub IsSteadyIn : Survey → Page → Type 0
-IsSteadyIn s p = Steady (repeated (survey_slots s)) (survey_pages s) p
-
 abbrev pub IsFaultIn : Survey → Page → Option Reason → Type 0
 IsFaultIn s p answer = IsPageFault (survey_slots s) (survey_pages s) p answer
+
+abbrev pub AreFaultsIn : Survey → List PageFault → Type 0
+AreFaultsIn s faults = AreFaults (survey_slots s) (survey_pages s) faults
 
 abbrev pub surveyed_page : SurveyedPage → Page
 surveyed_page p = page_of p.page.now

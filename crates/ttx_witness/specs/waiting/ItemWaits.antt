@@ -15,7 +15,7 @@ use Rattle.ttx_page.specs.declared.page.Page.{Page as PageValue}
 use Rattle.ttx_page.specs.declared.item.Item.{Item}
 use Rattle.ttx_page.specs.declared.item.Item.TheVariants.{Head as TheHead, Row as TheRow, Links as TheLinks}
 use Rattle.ttx_page.specs.declared.class.Class.{Class}
-use Rattle.ttx_witness.specs.passes.ItemProgress.{HoldsAt}
+use Rattle.ttx_witness.specs.Elements.{HoldsAt}
 use Rattle.ttx_witness.specs.waiting.PageWaits.{IsLeast, CanShow, AreLosses, fields_told, IsWait}
 use Rattle.ttx_witness.specs.declared.faults.reason.Reason.{Reason}
 use Rattle.ttx_witness.specs.declared.waiting.wait.ItemWait.{ItemWait}

@@ -67,6 +67,16 @@ fn are_sent(bytes: &[u8], characters: &[u8]) -> bool
     union == 0
 }
 
+// Whether the 40 bytes are those that send the characters: the first 32, then the last eight, so that whole vectors are compared.
+fn is_row_sent(bytes: &[u8; 40], characters: &[u8; 40]) -> bool
+    requires { (c : ℕ) → slice_index characters.now c < 128 }
+    ensures { IsTrue result ↔ (bytes.now ≡ map odd_byte characters.now) }
+{
+    let (block, rest) = bytes.split_at(32);
+    let (block_characters, rest_characters) = characters.split_at(32);
+    are_sent(block, block_characters) && are_sent(rest, rest_characters)
+}
+
 // Whether the slot is a header with the erase bit (C4).
 fn erases(slot: &[u8; 42]) -> bool
     ensures { IsTrue result ↔ (erases_page (packet_of slot.now) ≡ true) }
@@ -110,7 +120,7 @@ fn is_row_right(page: &Page, row: RowNumber, slot: &[u8; 42]) -> bool
 {
     ttx_page::laws::pages_keep_their_rules();
     match row_in(slot) {
-        Some(_) => are_sent(text_in(slot), &page.rows()[usize::from(row.number()) - 1]),
+        Some(_) => is_row_sent(text_in(slot), &page.rows()[usize::from(row.number()) - 1]),
         None => false,
     }
 }

@@ -1,36 +1,30 @@
-//! The first fault of a page, without allocating memory.
+//! The first fault of a page: from the slots of a cycle, without allocating memory, or from the transmissions of its items in a period.
 
-ghost use Rattle.std.specs.Prelude.{◌≡◌, ◌<◌, ◌↔◌, IsTrue, true, Some, None, length, map, slice_get};
+ghost use Rattle.std.specs.Prelude.{◌≡◌, ◌<◌, ◌+◌, ◌==◌, [], ℕ, List, None, Some, length, map, pos, slice_get, slice_index_or};
 ghost use Rattle.ttx_cycle.specs.Cycles.{slots_of};
 ghost use Rattle.ttx_page.specs.Pages as definitions;
 ghost use Rattle.ttx_page.specs.Views.{page_of};
 ghost use Rattle.ttx_page.specs.Streams.{repeated};
-ghost use Rattle.ttx_page.specs.Steady.{HasHeader, OtherSubpageAt, RowDiffersAt};
-ghost use Rattle.ttx_witness.specs.sent.ItemTransmissions.{owner_scan, entry_owner};
-ghost use Rattle.ttx_page.specs.Packets.{packet_of};
-ghost use Rattle.ttx_witness.specs.faults.Comparing.{is_mine, compared_item, sends, IsWrong, OtherHeaderAt, WrongAt, RowWrongAt};
-ghost use Rattle.ttx_witness.specs.faults.Faults.{TellsFirst, AreFirst, IsPageFault};
+ghost use Rattle.ttx_page.specs.Steady.{OtherSubpageAt};
+ghost use Rattle.ttx_page.specs.declared.item.Item.{Item as ItemValue};
+ghost use Rattle.ttx_witness.specs.sent.AllSent.{AreAllSent};
+ghost use Rattle.ttx_witness.specs.sent.Collected.{IsItem, item_number};
+ghost use Rattle.ttx_witness.specs.sent.ItemTransmissions.{owner_scan, entry_owner, sent_in};
+ghost use Rattle.ttx_witness.specs.faults.Comparing.{is_mine, is_number_of, OtherHeaderAt};
+ghost use Rattle.ttx_witness.specs.faults.Faults.{TellsFirst, IsPageFault};
+ghost use Rattle.ttx_witness.specs.faults.FirstSlots.{IsAfter, AreFirstTaken, SentBelow, TakenBelow};
 
-use crate::faults::comparing::{Check, is_wrong};
-use crate::faults::first_slots::{FirstSlots, earlier, least_fault};
+use crate::faults::first_slots::{
+    FirstSlots, after_slot, least_fault, none_yet, with_other_subpage,
+};
 use crate::faults::reason::Reason;
-use crate::sent::packets::{heads_other_subpage, heads_page, mine_after, sends};
+use crate::runs::transmissions::Transmission;
+use crate::sent::collected::Collected;
+use crate::sent::packets::{heads_other_subpage, item_sent, mine_after};
+use crate::sent::page_items::item_of;
 use ttx_cycle::Cycle;
 use ttx_header::PageId;
-use ttx_page::{Item, Page, RowNumber, Selection, needed};
-
-// Whether the cycle has a header of the page.
-fn has_header(cycle: &Cycle, page: PageId) -> bool
-    ensures { IsTrue result ↔ HasHeader (repeated (slots_of cycle.now)) page }
-{
-    let slots = cycle.slots();
-    for j in 0..slots.len() {
-        if heads_page(page, &slots[j]) {
-            return true;
-        }
-    }
-    false
-}
+use ttx_page::{Page, Selection};
 
 // The first header with the page's number and another subcode.
 fn first_other_header(cycle: &Cycle, page: PageId) -> Option<u32>
@@ -71,74 +65,36 @@ fn is_mine_at_end(cycle: &Cycle, page: PageId) -> bool
     mine
 }
 
-// Whether the slot is a transmission that differs from the page. `mine` says whether the magazine's latest header is one of the page.
-fn differs(page: &Page, check: &Check, slot: &[u8; 42], mine: bool) -> bool
-    ensures { IsTrue result ↔ ((sends (page_of page.now).id (compared_item check.now) (packet_of slot.now) mine ≡ true)
-        × IsWrong (page_of page.now) check.now slot.now) }
+// The first slots after slot `at`. `sent` is the number of the page's item that the slot sends, if it sends one.
+fn after_sent(
+    first: FirstSlots,
+    page: &Page,
+    sent: Option<u8>,
+    slot: &[u8; 42],
+    at: u32,
+) -> FirstSlots
+    ensures { IsAfter (page_of page.now) (λ item. is_number_of item sent) slot.now at first result }
 {
-    sends(page.id(), check.item(), slot, mine) && is_wrong(page, check, slot)
+    match sent {
+        Some(number) => after_slot(first, page, number, slot, at),
+        None => first,
+    }
 }
 
-// The first transmission that differs from the page. `mine` says the same of the magazine's latest header before the period.
-fn first_wrong(cycle: &Cycle, page: &Page, check: &Check, mine: bool) -> Option<u32>
+// The first slots of the page in a period. `mine` says whether the latest header of its magazine before the period is the page's.
+fn first_in_cycle(cycle: &Cycle, page: &Page, mine: bool) -> FirstSlots
     requires { mine ≡ is_mine (entry_owner (slots_of cycle.now) (page_of page.now).id) }
-    ensures { TellsFirst (slots_of cycle.now) (WrongAt (repeated (slots_of cycle.now)) (page_of page.now) check.now) result }
+    ensures { AreFirstTaken (page_of page.now) (repeated (slots_of cycle.now)) (SentBelow (page_of page.now).id (repeated (slots_of cycle.now))
+        (entry_owner (slots_of cycle.now) (page_of page.now).id) (length (slots_of cycle.now))) result }
 {
     let slots = cycle.slots();
-    let mut mine = mine;
+    let (mut mine, mut first) = (mine, none_yet());
     for j in 0..slots.len() {
-        if differs(page, check, &slots[j], mine) {
-            return Some(j as u32);
-        }
+        let sent = item_sent(page.id(), &slots[j], mine);
+        first = after_sent(first, page, sent, &slots[j], j as u32);
         mine = mine_after(page.id(), &slots[j], mine);
     }
-    None
-}
-
-// The first slot that differs from the page in this row. `None` if there is none, or if no viewer sees the row.
-fn first_wrong_in(cycle: &Cycle, page: &Page, number: u8, mine: bool) -> Option<u32>
-    requires { mine ≡ is_mine (entry_owner (slots_of cycle.now) (page_of page.now).id) }
-    ensures { TellsFirst (slots_of cycle.now) (RowWrongAt (repeated (slots_of cycle.now)) (page_of page.now) number) result }
-{
-    let Some(row) = RowNumber::new(number) else {
-        return None;
-    };
-    if !needed(page, Item::Row(row)) {
-        return None;
-    }
-    let check = Check::Row(row);
-    first_wrong(cycle, page, &check, mine)
-}
-
-// The first slot that differs from the page in a row that a viewer sees.
-fn first_wrong_row(cycle: &Cycle, page: &Page, mine: bool) -> Option<u32>
-    requires { mine ≡ is_mine (entry_owner (slots_of cycle.now) (page_of page.now).id) }
-    ensures { TellsFirst (slots_of cycle.now) (RowDiffersAt (repeated (slots_of cycle.now)) (page_of page.now)) result }
-{
-    let mut first = None;
-    for number in 1..25u8 {
-        first = earlier(first, first_wrong_in(cycle, page, number, mine));
-    }
     first
-}
-
-// For each reason about the page, the first slot where it is true.
-fn first_slots(cycle: &Cycle, pages: &[Page], index: usize) -> FirstSlots
-    requires { index < length pages.now }
-    ensures { (p : definitions.Page) → slice_get (map page_of pages.now) index ≡ Some p →
-        AreFirst (slots_of cycle.now) (map page_of pages.now) p result }
-{
-    let page = &pages[index];
-    let mine = is_mine_at_end(cycle, page.id());
-    let (erase_bit, head, links) = (Check::EraseBit, Check::Head, Check::Links);
-    FirstSlots {
-        has_header: has_header(cycle, page.id()),
-        other_subpage: first_other_subpage(cycle, pages, index),
-        erased: first_wrong(cycle, page, &erase_bit, mine),
-        head: first_wrong(cycle, page, &head, mine),
-        row: first_wrong_row(cycle, page, mine),
-        links: first_wrong(cycle, page, &links, mine),
-    }
 }
 
 /// The first reason why the cycle does not send the page at `index` unchanged: the least number, and its least slot. `None` if and
@@ -148,5 +104,84 @@ pub fn page_fault(cycle: &Cycle, pages: &[Page], index: usize) -> Option<Reason>
     ensures { (p : definitions.Page) → slice_get (map page_of pages.now) index ≡ Some p →
         IsPageFault (slots_of cycle.now) (map page_of pages.now) p result }
 {
-    least_fault(pages[index].id(), first_slots(cycle, pages, index))
+    let page = &pages[index];
+    let mine = is_mine_at_end(cycle, page.id());
+    let other_subpage = first_other_subpage(cycle, pages, index);
+    let first = first_in_cycle(cycle, page, mine);
+    least_fault(page.id(), with_other_subpage(first, other_subpage))
+}
+
+// The first slots after one more transmission of item `number`.
+fn after_transmission(
+    first: FirstSlots,
+    cycle: &Cycle,
+    page: &Page,
+    number: u8,
+    sent: Transmission,
+) -> FirstSlots
+    ensures { (j : ℕ) → sent.slot ≡ pos j → j < length (slots_of cycle.now) →
+        IsAfter (page_of page.now) (λ item. item_number item == number) (slice_index_or (slots_of cycle.now) j []) j first result }
+{
+    let slots = cycle.slots();
+    let Ok(at) = usize::try_from(sent.slot) else {
+        return first;
+    };
+    if at >= slots.len() {
+        return first;
+    }
+    after_slot(first, page, number, &slots[at], at as u32)
+}
+
+// The first slots after all transmissions of item `number` in a period.
+fn after_item(
+    first: FirstSlots,
+    cycle: &Cycle,
+    page: &Page,
+    number: u8,
+    sent: &[Transmission],
+) -> FirstSlots
+    ensures { (lines : ℕ) (item : ItemValue) → IsItem item → item_number item ≡ number →
+        sent.now ≡ sent_in (slots_of cycle.now) (page_of page.now).id lines item →
+        AreFirstTaken (page_of page.now) (repeated (slots_of cycle.now)) (TakenBelow (slots_of cycle.now) (page_of page.now).id number) first →
+        AreFirstTaken (page_of page.now) (repeated (slots_of cycle.now)) (TakenBelow (slots_of cycle.now) (page_of page.now).id (number + 1)) result }
+{
+    let mut first = first;
+    for i in 0..sent.len() {
+        first = after_transmission(first, cycle, page, number, sent[i]);
+    }
+    first
+}
+
+// The first slots of the page among the transmissions that were collected in a period.
+fn first_collected(cycle: &Cycle, page: &Page, collected: &Collected, index: usize) -> FirstSlots
+    ensures { (pages : List definitions.Page) (lines : ℕ) → AreAllSent (slots_of cycle.now) pages lines collected.now →
+        slice_get pages index ≡ Some (page_of page.now) →
+        AreFirstTaken (page_of page.now) (repeated (slots_of cycle.now)) (TakenBelow (slots_of cycle.now) (page_of page.now).id 26) result }
+{
+    let mut first = none_yet();
+    for number in 0..26u8 {
+        let sent = collected.sent(index, item_of(number));
+        first = after_item(first, cycle, page, number, sent);
+    }
+    first
+}
+
+/// The first reason why the cycle does not send the page unchanged; `None` if the page is steady. `index` is the place of the page
+/// among those whose transmissions are collected. Returns what `page_fault` returns, in time linear in the page's transmissions.
+/// `other_subpage` is the first slot with a header of the page's number and another subcode, if the page is the only one of its
+/// number.
+pub fn fault_of(
+    cycle: &Cycle,
+    page: &Page,
+    collected: &Collected,
+    index: usize,
+    other_subpage: Option<u32>,
+) -> Option<Reason>
+    ensures { (pages : List definitions.Page) (lines : ℕ) → AreAllSent (slots_of cycle.now) pages lines collected.now →
+        slice_get pages index ≡ Some (page_of page.now) →
+        TellsFirst (slots_of cycle.now) (OtherSubpageAt (repeated (slots_of cycle.now)) pages (page_of page.now)) other_subpage →
+        IsPageFault (slots_of cycle.now) pages (page_of page.now) result }
+{
+    let first = first_collected(cycle, page, collected, index);
+    least_fault(page.id(), with_other_subpage(first, other_subpage))
 }

@@ -66,3 +66,9 @@ pub enum Reason {
         header: u32,
     },
 }
+
+/// The first reason why a page is not sent unchanged. `None` if it is.
+#[derive(Clone, Copy)]
+pub struct PageFault {
+    pub reason: Option<Reason>,
+}

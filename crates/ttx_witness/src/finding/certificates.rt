@@ -11,12 +11,13 @@ ghost use Rattle.ttx_certificate.specs.Entries.{entry_places, rises};
 ghost use Rattle.ttx_certificate.specs.EntryViews.{entries_of};
 ghost use Rattle.ttx_certificate.specs.Certificates.{certificate_of};
 ghost use Rattle.ttx_witness.specs.finding.Finding.{same_place, IsLeastField, IsDeadline, IsSentUnchanged, IsFoundFor};
-ghost use Rattle.ttx_witness.specs.finding.Surveys.{survey_slots, survey_pages, surveyed_page, AreNamedIn, AreOthersIn, IsSteadyIn};
+ghost use Rattle.ttx_witness.specs.finding.Surveys.{survey_slots, survey_pages, AreNamedIn, AreOthersIn, AreFaultsIn};
 
 use crate::faults::bad_slots::bad_slot;
 use crate::faults::other_subpages::OtherSubpages;
+use crate::faults::reason::PageFault;
 use crate::finding::naming::name_page;
-use crate::finding::survey::{Survey, SurveyedPage, surveyed_at};
+use crate::finding::survey::{Survey, surveyed_at};
 use crate::sent::collecting::collect;
 use std::alloc::Global;
 use ttx_certificate::{Certificate, Entry, NoMemory};
@@ -45,23 +46,16 @@ fn least_field(slots: u64, lines: u8) -> Option<u32>
     }
 }
 
-// Whether the page is sent unchanged.
-fn is_steady(surveyed: &SurveyedPage, others: &OtherSubpages) -> bool
-    ensures { AreOthersIn surveyed.now.survey.now others.now → IsTrue result ↔ IsSteadyIn surveyed.now.survey.now (surveyed_page surveyed.now) }
+// Whether no slot is bad and no page has a fault.
+fn is_sent_unchanged(survey: &Survey, faults: &[PageFault]) -> bool
+    ensures { AreFaultsIn survey.now faults.now → IsTrue result ↔ IsSentUnchanged (survey_slots survey.now) (survey_pages survey.now) }
 {
     crate::laws::fault_laws::steady_has_no_fault();
-    surveyed.fault(others).is_none()
-}
-
-// Whether no slot is bad and each page is sent unchanged.
-fn is_sent_unchanged(survey: &Survey, others: &OtherSubpages) -> bool
-    ensures { AreOthersIn survey.now others.now → IsTrue result ↔ IsSentUnchanged (survey_slots survey.now) (survey_pages survey.now) }
-{
     if bad_slot(survey.cycle).is_some() {
         return false;
     }
-    for index in 0..survey.pages.len() {
-        if !is_steady(&surveyed_at(&*survey, index), others) {
+    for index in 0..faults.len() {
+        if faults[index].reason.is_some() {
             return false;
         }
     }
@@ -111,6 +105,50 @@ fn deadline_of(unchanged: bool, lines: u8, least: Option<u64>) -> Option<u32>
     }
 }
 
+/// For each page of the survey the first reason why it is not sent unchanged. `Err` if memory runs out.
+pub fn faults_in(
+    alloc: Global,
+    survey: &Survey,
+    others: &OtherSubpages,
+) -> Result<Vec<PageFault>, NoMemory>
+    ensures { IfOk result (λ faults. AreOthersIn survey.now others.now → AreFaultsIn survey.now faults.items) }
+{
+    let mut faults = Vec::new(alloc);
+    for index in 0..survey.pages.len() {
+        let reason = surveyed_at(&*survey, index).fault(others);
+        if faults.push(PageFault { reason }).is_err() {
+            return Err(NoMemory);
+        }
+    }
+    Ok(faults)
+}
+
+/// The certificate that `find_for` finds for the cycle, the pages and the numbers of the survey, whose transmissions are collected.
+/// `faults` are the first reasons why each page is not sent unchanged, as `faults_in` gives them. `Err` if memory runs out.
+pub fn find_in(alloc: Global, survey: &Survey, faults: &[PageFault]) -> Result<Found, NoMemory>
+    requires { AreFaultsIn survey.now faults.now }
+    ensures { IfOk result (λ found. IsFoundFor (survey_slots survey.now) (survey_pages survey.now) survey.now.repeat survey.now.lines
+        survey.now.class (certificate_of found.certificate) found.deadline) }
+{
+    ttx_page::laws::pages_keep_their_rules();
+    ttx_page::laws::pages_have_six_links();
+    ttx_page::laws::blank_is_tested();
+    ttx_page::laws::each_slot_turns();
+    crate::laws::cycle_laws::sure_starts_are_found();
+    crate::laws::cycle_laws::least_limit_is_found();
+    let mut entries = Vec::new(alloc);
+    let least = name_pages(alloc, survey, &mut entries)?;
+    sort_entries(&mut entries)?;
+    let (lines, repeat) = (survey.lines, survey.repeat);
+    let unchanged = is_sent_unchanged(survey, faults);
+    let deadline = deadline_of(unchanged, lines, least);
+    let fields = deadline.unwrap_or(1_000_000);
+    Ok(Found {
+        certificate: Certificate::of(lines, repeat, fields, entries, survey.class),
+        deadline,
+    })
+}
+
 /// Finds the certificate that names every start of a sure run of every item that a viewer sees and that a receiver of the class does
 /// not hold already, with the least deadline in fields with which the cycle is accepted. `repeat` is 1 to 8, `lines` (slots in a
 /// field) 1 to 32. `Err` if memory runs out.
@@ -130,14 +168,7 @@ pub fn find_for(
     ensures { IfOk result (λ found.
         IsFoundFor (slots_of cycle.now) (map page_of pages.now) repeat lines class (certificate_of found.certificate) found.deadline) }
 {
-    ttx_page::laws::pages_keep_their_rules();
-    ttx_page::laws::pages_have_six_links();
-    ttx_page::laws::blank_is_tested();
-    ttx_page::laws::each_slot_turns();
-    crate::laws::cycle_laws::sure_starts_are_found();
-    crate::laws::cycle_laws::least_limit_is_found();
     let collected = collect(alloc, cycle, pages, lines)?;
-    let others = OtherSubpages::of(alloc, cycle, pages)?;
     let survey = Survey {
         cycle,
         pages,
@@ -146,16 +177,9 @@ pub fn find_for(
         lines,
         collected,
     };
-    let mut entries = Vec::new(alloc);
-    let least = name_pages(alloc, &survey, &mut entries)?;
-    sort_entries(&mut entries)?;
-    let unchanged = is_sent_unchanged(&survey, &others);
-    let deadline = deadline_of(unchanged, lines, least);
-    let fields = deadline.unwrap_or(1_000_000);
-    Ok(Found {
-        certificate: Certificate::of(lines, repeat, fields, entries, class),
-        deadline,
-    })
+    let others = OtherSubpages::of(alloc, cycle, pages)?;
+    let faults = faults_in(alloc, &survey, &others)?;
+    find_in(alloc, &survey, &faults)
 }
 
 /// The certificate that `find_for` finds for receivers of class any. `repeat` is 1 to 8, `lines` 1 to 32.

@@ -6,8 +6,8 @@ ghost use Rattle.ttx_cycle.specs.Cycles.{slots_of};
 ghost use Rattle.ttx_page.specs.Views.{page_of, ids_of};
 ghost use Rattle.ttx_witness.specs.sent.AllSent.{AreAllSent};
 
-use crate::faults::collected_faults::fault_of;
 use crate::faults::other_subpages::OtherSubpages;
+use crate::faults::page_faults::fault_of;
 use crate::faults::reason::Reason;
 use crate::sent::collected::Collected;
 use ttx_cycle::Cycle;

@@ -11,8 +11,8 @@ ghost use Rattle.ttx_witness.specs.sent.OneSlot.{sent_of, sends_place};
 
 use crate::runs::transmissions::Transmission;
 use crate::sent::owners::Owner;
+use crate::sent::packets::read_header;
 use crate::sent::page_index::{PageIndex, place_of};
-use ttx_header::read_header;
 use ttx_packet::{Slot, slot_of};
 
 /// A transmission of an item: the index of its page in the list of pages, and the number of the item, 0 to 25.

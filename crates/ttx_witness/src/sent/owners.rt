@@ -7,9 +7,9 @@ ghost use Rattle.ttx_cycle.specs.Cycles.{slots_of};
 ghost use Rattle.ttx_witness.specs.sent.ItemTransmissions.{owner_after};
 ghost use Rattle.ttx_witness.specs.sent.Collected.{taint, IsIndex, AreOwners, AreApart, owner_for};
 
+use crate::sent::packets::read_header;
 use crate::sent::page_index::{PageIndex, place_of};
 use ttx_cycle::Cycle;
-use ttx_header::read_header;
 
 /// The latest header of a magazine.
 #[derive(Clone, Copy)]

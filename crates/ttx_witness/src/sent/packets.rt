@@ -1,16 +1,32 @@
 //! The packets in slots: headers, rows and links.
 
-ghost use Rattle.std.specs.Prelude.{◌≡◌, MatchOption};
+ghost use Rattle.std.specs.Prelude.{◌≡◌, ◌<◌, Bool, IfSome, MatchOption, Some, SomeIff, true};
+ghost use Rattle.ttx_header.specs.Headers.{is_header, header_fields_of};
+ghost use Rattle.ttx_header.specs.Ids.{Id};
 ghost use Rattle.ttx_page.specs.Packets.{packet_of};
 ghost use Rattle.ttx_page.specs.Streams.{heads_page, carries};
+ghost use Rattle.ttx_page.specs.declared.item.Item.{Item as ItemValue};
 ghost use Rattle.ttx_page.specs.declared.item.Item.TheVariants.{Row as TheRow, Links as TheLinks};
 ghost use Rattle.ttx_witness.specs.faults.Comparing.{HoldsHeader, HoldsNoHeader, HoldsRow, HoldsNoRow, HoldsLinks, mine_after};
-ghost use Rattle.ttx_witness.specs.faults.Comparing.{HoldsNoLinks, sends, heads_other_subpage};
+ghost use Rattle.ttx_witness.specs.faults.Comparing.{HoldsNoLinks, sends, heads_other_subpage, is_number_of};
+ghost use Rattle.ttx_witness.specs.sent.Collected.{IsItem, item_number};
 
-use ttx_header::{Header, PageId, read_header};
+use crate::sent::page_items::item_of;
+use ttx_header::parts::number_at;
+use ttx_header::{Header, PageId};
 use ttx_packet::place::Address;
 use ttx_packet::{Slot, slot_of};
 use ttx_page::{Item, RowNumber};
+
+/// Reads the page header in the 42 bytes of a slot. Most packets are rows, so the packet number is looked at before the header is read.
+pub fn read_header(slot: &[u8; 42]) -> Option<Header>
+    ensures { SomeIff result (is_header slot.now ≡ true) (header_fields_of slot.now) }
+{
+    if number_at(slot, 1) != 0 || number_at(slot, 0) >= 8 {
+        return None;
+    }
+    ttx_header::read_header(slot)
+}
 
 /// The page header in a slot, if there is one.
 pub fn header_in(slot: &[u8; 42]) -> Option<Header>
@@ -120,5 +136,32 @@ pub fn sends(page: PageId, item: Item, slot: &[u8; 42], mine: bool) -> bool
         Item::Head => heads_page(page, slot),
         Item::Row(row) => carries_row(page.mag(), row, slot) && mine,
         Item::Links => carries_links(page.mag(), slot) && mine,
+    }
+}
+
+// The number of the item that the slot sends of some page, 0 to 25. `None` if it sends none of any page.
+fn number_in(slot: &[u8; 42]) -> Option<u8>
+    ensures range { IfSome result (λ number. number < 26) }
+    ensures number { (page : Id) (item : ItemValue) (mine : Bool) → sends page item (packet_of slot.now) mine ≡ true →
+        result ≡ Some (item_number item) }
+{
+    ttx_packet::laws::rows_are_numbered();
+    match slot_of(slot) {
+        Slot::Header(_, _) => Some(0),
+        Slot::Row(at, _) => Some(at.number),
+        Slot::Links(_, _) => Some(25),
+        _ => None,
+    }
+}
+
+/// The number of the page's item that the slot sends, 0 to 25, if it sends one. `mine` is as for `sends`.
+pub fn item_sent(page: PageId, slot: &[u8; 42], mine: bool) -> Option<u8>
+    ensures { (item : ItemValue) → IsItem item → is_number_of item result ≡ sends page item (packet_of slot.now) mine }
+{
+    let number = number_in(slot)?;
+    if sends(page, item_of(number), slot, mine) {
+        Some(number)
+    } else {
+        None
     }
 }

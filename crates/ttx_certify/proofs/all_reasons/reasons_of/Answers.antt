@@ -1,7 +1,7 @@
 use Rattle.std.proofs.Common.{rules, ◌≡◌, ◌+◌, [], ◌∷◌, ◌++◌, length, sym, subst, arith}
 use Rattle.std.proofs.lemmas.List.{length-map}
 use Rattle.ttx_page.specs.Views.{page_of}
-use Rattle.ttx_witness.specs.passes.Passing.{ended_pages, ended_certificate}
+use Rattle.ttx_certify.specs.walks.Passing.{ended_pages, ended_certificate}
 use Rattle.ttx_certify.specs.declared.all_reasons.PageReason.{PageReason}
 use Rattle.ttx_certify.proofs.ToldPages.{AreToldBelow, one_more_told, all_told}
 use Rattle.ttx_certify.proofs.all_reasons.reasons_of.Goals as goal

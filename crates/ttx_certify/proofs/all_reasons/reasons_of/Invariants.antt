@@ -1,5 +1,5 @@
 use Rattle.std.proofs.Common.{◌≤◌, ℕ, List, length}
-use Rattle.ttx_witness.specs.passes.Passing.{IsEnded, ended_pages, ended_certificate}
+use Rattle.ttx_certify.specs.walks.Passing.{IsEnded, ended_pages, ended_certificate}
 use Rattle.ttx_certify.proofs.ToldPages.{AreToldBelow}
 use Rattle.ttx_certify.proofs.all_reasons.reasons_of.Given as goal
 

@@ -1,5 +1,5 @@
 use Rattle.std.proofs.Common.{◌≡◌, [], take}
-use Rattle.ttx_certify.specs.Walking.{Starts, walk_pages, walk_certificate}
+use Rattle.ttx_certify.specs.walks.Passing.{Starts, walk_pages, walk_certificate}
 use Rattle.ttx_certify.proofs.certifying.first_pass.Given as goal
 
 abbrev pub invariant-loop-i : goal.invariant-loop-i

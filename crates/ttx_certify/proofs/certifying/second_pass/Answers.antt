@@ -1,6 +1,6 @@
 use Rattle.std.proofs.Common.{rules, ◌≡◌, suc, ◌+◌, take, sym, ap, ◌∙◌, subst, arith}
 use Rattle.std.proofs.Math.Seq.{take-suc}
-use Rattle.ttx_certify.specs.Walking.{Stands}
+use Rattle.ttx_certify.specs.walks.Passing.{Stands}
 use Rattle.ttx_certify.proofs.certifying.second_pass.Goals as goal
 
 pub loop-i-preserved : goal.loop-i-preserved

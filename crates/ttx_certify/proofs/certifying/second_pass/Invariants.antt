@@ -1,5 +1,5 @@
 use Rattle.std.proofs.Common.{◌≡◌, [], take}
-use Rattle.ttx_certify.specs.Walking.{Stands, second_pages, second_certificate}
+use Rattle.ttx_certify.specs.walks.Passing.{Stands, second_pages, second_certificate}
 use Rattle.ttx_certify.proofs.certifying.second_pass.Given as goal
 
 abbrev pub invariant-loop-i : goal.invariant-loop-i

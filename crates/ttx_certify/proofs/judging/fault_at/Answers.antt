@@ -1,6 +1,6 @@
 use Rattle.std.proofs.Common.{subst}
 use Rattle.ttx_witness.specs.faults.Faults.{IsPageFault}
-use Rattle.ttx_witness.specs.passes.Passing.{ended_pages, ended_certificate}
+use Rattle.ttx_certify.specs.walks.Passing.{ended_pages, ended_certificate}
 use Rattle.ttx_certify.proofs.PageByPage.{fault_from}
 use Rattle.ttx_certify.proofs.judging.fault_at.Goals as goal
 

@@ -1,7 +1,7 @@
 use Rattle.std.proofs.Common.{◌<◌, ◌≤◌, length, arith}
 use Rattle.std.proofs.lemmas.List.{length-map}
 use Rattle.ttx_page.specs.Views.{page_of}
-use Rattle.ttx_witness.specs.passes.Passing.{ended_pages, ended_certificate}
+use Rattle.ttx_certify.specs.walks.Passing.{ended_pages, ended_certificate}
 use Rattle.ttx_certify.proofs.PageByPage.{first_here, one_more, none_at_all}
 use Rattle.ttx_certify.proofs.judging.first_fault.Goals as goal
 

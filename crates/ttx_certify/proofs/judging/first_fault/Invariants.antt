@@ -1,7 +1,7 @@
 use Rattle.std.proofs.Common.{◌≡◌, ◌<◌, ℕ, List, Some, None, slice_get}
 use Rattle.ttx_page.specs.Pages.{Page}
 use Rattle.ttx_witness.specs.faults.Faults.{IsFault}
-use Rattle.ttx_witness.specs.passes.Passing.{IsEnded, ended_pages, ended_certificate}
+use Rattle.ttx_certify.specs.walks.Passing.{IsEnded, ended_pages, ended_certificate}
 use Rattle.ttx_certify.proofs.judging.first_fault.Given as goal
 
 abbrev pub invariant-loop-index : goal.invariant-loop-index

@@ -2,9 +2,9 @@ use Rattle.std.proofs.Common.{◌≡◌, ℕ, ◌≤◌, false, List, [], length
 use Rattle.std.specs.Prelude.{MatchOption}
 use Rattle.ttx_packet.specs.Slots.{is_clean}
 use Rattle.ttx_page.specs.Pages.{Page}
-use Rattle.ttx_witness.specs.passes.PageFacts.{FirstBelow}
+use Rattle.ttx_certify.specs.walks.PageFacts.{FirstBelow}
 use Rattle.ttx_witness.specs.faults.Faults.{IsFault}
-use Rattle.ttx_witness.specs.passes.Passing.{ended_pages, ended_certificate}
+use Rattle.ttx_certify.specs.walks.Passing.{ended_pages, ended_certificate}
 use Rattle.ttx_witness.specs.faults.Reasons.{BadSlotAt}
 use Rattle.ttx_certify.specs.Verdicts.{IsFirstFault}
 use Rattle.ttx_certify.proofs.Accepting.{clean_if, accepted, refusal, refused_not}

@@ -1,5 +1,5 @@
 use Rattle.std.proofs.Common.{◌≡◌, sym, subst}
-use Rattle.ttx_witness.specs.passes.ItemProgress.{IsProgress}
+use Rattle.ttx_certify.specs.walks.ItemProgress.{IsProgress}
 use Rattle.ttx_certify.specs.ItemReasons.{judged_page}
 use Rattle.ttx_certify.proofs.page_reasons.reason_at.Goals as goal
 

@@ -3,7 +3,7 @@ use Rattle.ttx_page.specs.Steady.{HasHeader}
 use Rattle.ttx_page.specs.Streams.{repeated}
 use Rattle.ttx_page.specs.Views.{page_of}
 use Rattle.ttx_witness.specs.faults.Faults.{IsWitnessFault}
-use Rattle.ttx_witness.specs.passes.Passing.{ended_pages, ended_certificate}
+use Rattle.ttx_certify.specs.walks.Passing.{ended_pages, ended_certificate}
 use Rattle.ttx_certify.proofs.ItemByItem as items
 use Rattle.ttx_certify.proofs.PageByPage.{page_at, same_page}
 use Rattle.ttx_certify.proofs.page_reasons.witness_fault.Goals as goal

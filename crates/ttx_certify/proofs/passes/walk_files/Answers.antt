@@ -3,7 +3,8 @@ use Rattle.ttx_certificate.specs.Certificates.{certificate_of}
 use Rattle.ttx_cycle.specs.Counters.{inner_of}
 use Rattle.ttx_source.specs.Services.{pages_of}
 use Rattle.ttx_certify.specs.Verdicts.{Means}
-use Rattle.ttx_certify.specs.Walking.{IsWalkVerdict, TookFirst, TookSecond, second_pages}
+use Rattle.ttx_certify.specs.Walking.{IsWalkVerdict, TookFirst, TookSecond}
+use Rattle.ttx_certify.specs.walks.Passing.{second_pages}
 use Rattle.ttx_certify.proofs.AuthoredIds.{distinct_ids}
 use Rattle.ttx_certify.proofs.TwoFiles.{twice_walked}
 use Rattle.ttx_certify.proofs.passes.walk_files.Goals as goal

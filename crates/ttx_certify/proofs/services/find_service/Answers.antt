@@ -1,7 +1,7 @@
 use Rattle.std.proofs.Common.{IfOk, subst}
 use Rattle.ttx_cycle.specs.Cycles.{slots_of}
 use Rattle.ttx_source.specs.Services.{pages_of}
-use Rattle.ttx_witness.specs.Certificates.{certificate_of}
+use Rattle.ttx_certificate.specs.Certificates.{certificate_of}
 use Rattle.ttx_witness.specs.finding.Finding.{IsFoundFor}
 use Rattle.ttx_certify.proofs.AuthoredIds.{distinct_ids}
 use Rattle.ttx_certify.proofs.services.find_service.Goals as goal

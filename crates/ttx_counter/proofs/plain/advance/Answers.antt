@@ -14,8 +14,8 @@ loop-i-init c = record {
   lines = refl;
 }
 
-pub hear_at-requires-clause-at : goal.hear_at-requires-clause-at
-hear_at-requires-clause-at c = subst (λ s. c.place.result < length s) c.slots-period.ensures.slots c.place.ensures.inside
+pub hear_at-requires : goal.hear_at-requires
+hear_at-requires c = subst (λ s. c.place.result < length s) c.slots-period.ensures.slots c.place.ensures.inside
 
 pub loop-i-preserved : goal.loop-i-preserved
 loop-i-preserved c =

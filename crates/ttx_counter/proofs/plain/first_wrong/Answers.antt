@@ -14,11 +14,11 @@ use Rattle.ttx_counter.proofs.NotTakenIsKept.{unseen}
 use Rattle.ttx_counter.proofs.plain.first_wrong.Goals.{then-taken, else-taken}
 use Rattle.ttx_counter.proofs.plain.first_wrong.Goals as goal
 
-pub takes_from-taken-requires-clause-at : goal.takes_from-taken-requires-clause-at
-takes_from-taken-requires-clause-at c = subst (λ s. c.place-at.result < length s) c.slots-period.ensures.slots c.place-at.ensures.inside
+pub takes_from-taken-requires : goal.takes_from-taken-requires
+takes_from-taken-requires c = subst (λ s. c.place-at.result < length s) c.slots-period.ensures.slots c.place-at.ensures.inside
 
-pub hear_at-requires-clause-at : goal.hear_at-requires-clause-at
-hear_at-requires-clause-at c = subst (λ s. c.place-at.result < length s) c.slots-period.ensures.slots c.place-at.ensures.inside
+pub hear_at-requires : goal.hear_at-requires
+hear_at-requires c = subst (λ s. c.place-at.result < length s) c.slots-period.ensures.slots c.place-at.ensures.inside
 
 pub loop-n-preserved : goal.loop-n-preserved
 loop-n-preserved c =

@@ -1,6 +1,6 @@
 use Rattle.std.proofs.Common.{◌∙◌, ℕ, List, [], Bool, ap}
 use Rattle.ttx_page.specs.Views.{memory_of}
-use Rattle.ttx_witness.specs.Certificates.{certificate_of}
+use Rattle.ttx_certificate.specs.Certificates.{certificate_of}
 use Rattle.ttx_counter.specs.Counters.{CounterRun, Hit}
 use Rattle.ttx_counter.specs.Sources.{plain_counter}
 use Rattle.ttx_counter.proofs.plain_refuting.plain_counter.Goals as goal

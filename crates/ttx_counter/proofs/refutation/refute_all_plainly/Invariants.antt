@@ -1,12 +1,9 @@
-use Rattle.std.proofs.Common.{◌<◌, ℕ, Bool, map}
-use Rattle.ttx_cycle.specs.Cycles.{slots_of}
-use Rattle.ttx_page.specs.Views.{page_of}
-use Rattle.ttx_witness.specs.Certificates.{certificate_of}
+use Rattle.std.proofs.Common.{◌<◌, ℕ, Bool}
 use Rattle.ttx_witness.specs.Coverage.{limit}
+use Rattle.ttx_counter.specs.Claims.{claimed_slots, claimed_pages, claimed_numbers}
 use Rattle.ttx_counter.specs.Sources.{IsPlainlyRight}
 use Rattle.ttx_counter.proofs.refutation.refute_all_plainly.Given as goal
 
 abbrev pub invariant-loop-index : goal.invariant-loop-index
-invariant-loop-index l = (n : ℕ) (any_sub : Bool) → n < l.index →
-    IsPlainlyRight (slots_of l.claim.cycle.now) (map page_of l.claim.pages.now) n any_sub
-    (certificate_of l.claim.certificate.now).lines (limit (certificate_of l.claim.certificate.now))
+invariant-loop-index l = (n : ℕ) (any_sub : Bool) → n < l.index → IsPlainlyRight (claimed_slots l.claim) (claimed_pages l.claim) n any_sub
+    (claimed_numbers l.claim).lines (limit (claimed_numbers l.claim))

@@ -1,15 +1,7 @@
-use Rattle.std.proofs.Common.{◌≡◌, ◌<◌, true, Some, map, slice_get}
-use Rattle.ttx_cycle.specs.Cycles.{slots_of}
-use Rattle.ttx_page.specs.Pages.{Page, needed}
-use Rattle.ttx_page.specs.declared.item.Item.{Item}
-use Rattle.ttx_page.specs.Views.{page_of}
-use Rattle.ttx_witness.specs.Certificates.{certificate_of}
-use Rattle.ttx_witness.specs.sent.Collected.{IsItem, item_number}
-use Rattle.ttx_witness.specs.Coverage.{IsCovered}
-use Rattle.ttx_counter.specs.Starving.{fullest}
+use Rattle.ttx_counter.specs.Claims.{claimed_slots, claimed_pages, claimed_numbers, own_page}
+use Rattle.ttx_counter.proofs.SearchAnswers.{CoveredTo}
 use Rattle.ttx_counter.proofs.refutation.starve_page.Given as goal
 
 abbrev pub invariant-loop-number : goal.invariant-loop-number
-invariant-loop-number l = (p : Page) → slice_get (map page_of l.claim.pages.now) l.fn.index ≡ Some p → (item : Item) → IsItem item →
-    item_number item < l.number → needed p item ≡ true →
-    IsCovered (slots_of l.claim.cycle.now) p (fullest (slots_of l.claim.cycle.now) (certificate_of l.claim.certificate.now)) item
+invariant-loop-number l =
+    CoveredTo (claimed_slots l.page.claim.now) (claimed_pages l.page.claim.now) (claimed_numbers l.page.claim.now) (own_page l.page) l.number

@@ -6,7 +6,7 @@ use Rattle.ttx_page.specs.declared.selection.Selection.{Selection}
 use Rattle.ttx_page.specs.declared.selection.Selection.TheVariants.{Exact}
 use Rattle.ttx_receiver.specs.Starving.{wrong_memory, starved_hits, starved_choices}
 use Rattle.ttx_cycle.specs.Cycles.{slots_of}
-use Rattle.ttx_witness.specs.Certificates.{certificate_of}
+use Rattle.ttx_certificate.specs.Certificates.{certificate_of}
 use Rattle.ttx_counter.specs.Counters.{CounterRun, Hit}
 use Rattle.ttx_counter.specs.StarvingRuns.{hit_at}
 use Rattle.ttx_counter.proofs.starving.counter_for.Goals as goal

@@ -1,4 +1,4 @@
-use Rattle.std.proofs.Common.{◌-◌, ◌&&◌, nat_le, Some, None, if◌then◌else◌, ap, sym, arith}
+use Rattle.std.proofs.Common.{◌-◌, nat_le, Some, None, if◌then◌else◌, ap, sym, arith}
 use Rattle.std.proofs.lemmas.Bool.{and_from, le-leb}
 use Rattle.ttx_digits.specs.Digits.{decimal_in}
 use Rattle.ttx_digits.proofs.decimals.decimal_in.Goals as goal

@@ -1,4 +1,4 @@
-use Rattle.std.proofs.Common.{ℕ, ◌-◌, ◌∙◌, ◌==◌, ◌&&◌, not, nat_le, Some, None, if◌then◌else◌, slice_index, ap, sym, arith}
+use Rattle.std.proofs.Common.{◌-◌, ◌∙◌, ◌==◌, ◌&&◌, not, nat_le, Some, None, if◌then◌else◌, slice_index, ap, sym, arith}
 use Rattle.std.proofs.lemmas.Bool.{and_from, le-leb, ne_eqb}
 use Rattle.ttx_digits.specs.PageIds.{first_number, numbered}
 use Rattle.ttx_digits.proofs.page_ids.first_number.Goals as goal

@@ -1,6 +1,6 @@
 use Rattle.std.proofs.Common.{subst}
 use Rattle.ttx_cycle.specs.Cycles.{slots_of, slots_of-IsCycle}
-use Rattle.ttx_witness.specs.Certificates.{certificate_of}
+use Rattle.ttx_certificate.specs.Certificates.{certificate_of}
 use Rattle.ttx_source.specs.Services.{pages_of}
 use Rattle.ttx_certify.specs.Laws.{ArePages}
 use Rattle.ttx_certify.specs.Verdicts.{IsVerdict, Means}

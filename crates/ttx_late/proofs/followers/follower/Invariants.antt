@@ -1,10 +1,6 @@
-use Rattle.std.proofs.Common.{◌≡◌, ◌+◌, ◌%◌, ◌<◌, ℕ, false, [], length, slice_index_or}
-use Rattle.ttx_page.specs.Packets.{packet_of}
-use Rattle.ttx_page.specs.Streams.{heads}
+use Rattle.ttx_page.specs.Streams.{repeated}
+use Rattle.ttx_late.proofs.FollowersOfCycles.{NoneBefore}
 use Rattle.ttx_late.proofs.followers.follower.Given as goal
 
-abbrev pub invariant-loop-step : goal.invariant-loop-step
-invariant-loop-step l = record {
-  none : (k : ℕ) → k < l.step → heads l.page.mag (packet_of (slice_index_or l.slots ((l.at + 1 + k) % length l.slots) []))
-      ≡ false;
-}
+abbrev pub invariant-loop-distance : goal.invariant-loop-distance
+invariant-loop-distance l = record { none : NoneBefore (repeated l.slots) l.page.mag l.at l.distance }

@@ -1,4 +1,4 @@
-use Rattle.std.proofs.Common.{◌≤◌, length, map, sym, ◌∙◌, arith}
+use Rattle.std.proofs.Common.{map, sym, ◌∙◌, arith}
 use Rattle.std.proofs.lemmas.List.{length-map}
 use Rattle.std.proofs.lemmas.Bool.{both_ways}
 use Rattle.ttx_page.specs.Views.{page_of}
@@ -22,7 +22,5 @@ loop-index-preserved c = record {
 }
 
 pub returns : goal.returns
-returns c =
-    let past : length (map page_of c.args.pages.now) ≤ c.loop-index.index = let l = length-map c.args.pages.now page_of in let t =
-    c.loop-index-test.false in omega arith in
-    none_listed (map page_of c.args.pages.now) c.args.id c.loop-index.index c.loop-index.invariant.none past
+returns c = none_listed (map page_of c.args.pages.now) c.args.id c.loop-index.index c.loop-index.invariant.none
+    (let test = c.loop-index-test.false in omega (arith, length-map c.args.pages.now page_of))

@@ -2,7 +2,7 @@ use Rattle.std.proofs.Common.{Ok, Err, inr, sym, ap, subst}
 use Rattle.ttx_cycle.specs.Counters.{inner_of}
 use Rattle.ttx_cycle.specs.Cycles.{slots_of, slots_of-IsCycle}
 use Rattle.ttx_source.specs.Services.{pages_of}
-use Rattle.ttx_witness.specs.Certificates.{certificate_of}
+use Rattle.ttx_certificate.specs.Certificates.{certificate_of}
 use Rattle.ttx_certify.specs.Laws.{ArePages}
 use Rattle.ttx_certify.proofs.PageByPage.{are_pages}
 use Rattle.ttx_monitor.specs.Watching.{watched}

@@ -2,7 +2,7 @@ use Rattle.std.proofs.Common.{IfOk, subst}
 use Rattle.ttx_certify.specs.Verdicts.{IsVerdict}
 use Rattle.ttx_certify.proofs.AuthoredIds.{distinct_ids}
 use Rattle.ttx_cycle.specs.Cycles.{slots_of}
-use Rattle.ttx_witness.specs.Certificates.{certificate_of}
+use Rattle.ttx_certificate.specs.Certificates.{certificate_of}
 use Rattle.ttx_playout.proofs.on_air.certified.Goals as goal
 
 pub certify-requires : goal.certify-requires

@@ -1,5 +1,5 @@
 use Rattle.ttx_cycle.specs.Cycles.{slots_of}
-use Rattle.ttx_witness.specs.Certificates.{fields_of}
+use Rattle.ttx_certificate.specs.Certificates.{fields_of}
 use Rattle.ttx_proof.proofs.judging.judge_six.Goals as goal
 
 pub returns-in-Ok-judge-clause-bytes : goal.returns-in-Ok-judge-clause-bytes

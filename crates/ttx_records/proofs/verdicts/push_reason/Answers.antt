@@ -1,48 +1,36 @@
-use Rattle.std.proofs.Common.{◌≡◌, ◌++◌, ℕ, List, OnOk, string_bytes, codes, sym, subst}
-use Rattle.ttx_records.specs.Names.{line}
-use Rattle.ttx_records.specs.Verdicts.{at_slot, reason_members}
+use Rattle.std.proofs.Common.{◌∙◌, [], ◌∷◌, codes, sym, ap}
+use Rattle.ttx_json.specs.Objects.{Member, count}
+use Rattle.ttx_records.proofs.Lines.{told}
+use Rattle.ttx_records.specs.Verdicts.{of_page, of_item, reason_members}
 use Rattle.ttx_records.proofs.verdicts.push_reason.Goals as goal
 
 pub returns-in-OtherSubpage : goal.returns-in-OtherSubpage
 returns-in-OtherSubpage c =
-    subst (λ r. OnOk c.push_at_slot.result (string_bytes c.push_at_slot.new.text ≡ string_bytes c.args.text.now
-    ++ line (reason_members r))) (sym c.in-OtherSubpage.is)
-    (subst (λ (number : ℕ). OnOk c.push_at_slot.result (string_bytes c.push_at_slot.new.text ≡ string_bytes c.args.text.now
-    ++ line (at_slot number (codes "other-subpage") c.in-OtherSubpage.page c.in-OtherSubpage.slot))) c.named-in-OtherSubpage.ensures.number
-    (subst (λ (name : List ℕ). OnOk c.push_at_slot.result (string_bytes c.push_at_slot.new.text ≡ string_bytes c.args.text.now
-    ++ line (at_slot c.named-in-OtherSubpage.result.number name c.in-OtherSubpage.page c.in-OtherSubpage.slot))) c.named-in-OtherSubpage.ensures.name
-    (subst (λ (slot : ℕ). OnOk c.push_at_slot.result (string_bytes c.push_at_slot.new.text ≡ string_bytes c.args.text.now
-    ++ line (at_slot c.named-in-OtherSubpage.result.number c.named-in-OtherSubpage.result.name.now c.in-OtherSubpage.page slot))) c.from.ensures c.push_at_slot.ensures)))
+    told _ _ _
+    (ap (λ (m : Member). of_page 3 (codes "other-subpage") c.in-OtherSubpage.page (m ∷ [])) c.at-in-OtherSubpage.ensures
+    ∙ sym (ap reason_members c.in-OtherSubpage.is)) c.push_of_page-in-OtherSubpage.ensures
 
 pub returns-in-Erased : goal.returns-in-Erased
 returns-in-Erased c =
-    subst (λ r. OnOk c.push_at_slot-in-Erased.result (string_bytes c.push_at_slot-in-Erased.new.text ≡ string_bytes c.args.text.now
-    ++ line (reason_members r))) (sym c.in-Erased.is)
-    (subst (λ (number : ℕ). OnOk c.push_at_slot-in-Erased.result (string_bytes c.push_at_slot-in-Erased.new.text ≡ string_bytes c.args.text.now
-    ++ line (at_slot number (codes "erased") c.in-Erased.page c.in-Erased.slot))) c.named-in-Erased.ensures.number
-    (subst (λ (name : List ℕ). OnOk c.push_at_slot-in-Erased.result (string_bytes c.push_at_slot-in-Erased.new.text ≡ string_bytes c.args.text.now
-    ++ line (at_slot c.named-in-Erased.result.number name c.in-Erased.page c.in-Erased.slot))) c.named-in-Erased.ensures.name
-    (subst (λ (slot : ℕ). OnOk c.push_at_slot-in-Erased.result (string_bytes c.push_at_slot-in-Erased.new.text ≡ string_bytes c.args.text.now
-    ++ line (at_slot c.named-in-Erased.result.number c.named-in-Erased.result.name.now c.in-Erased.page slot))) c.from-in-Erased.ensures c.push_at_slot-in-Erased.ensures)))
+    told _ _ _
+    (ap (λ (m : Member). of_page 4 (codes "erased") c.in-Erased.page (m ∷ [])) c.at-in-Erased.ensures ∙ sym (ap reason_members c.in-Erased.is))
+    c.push_of_page-in-Erased.ensures
 
 pub returns-in-RowDiffers : goal.returns-in-RowDiffers
 returns-in-RowDiffers c =
-    subst (λ r. OnOk c.push_at_slot-in-RowDiffers.result (string_bytes c.push_at_slot-in-RowDiffers.new.text ≡ string_bytes c.args.text.now
-    ++ line (reason_members r))) (sym c.in-RowDiffers.is)
-    (subst (λ (number : ℕ). OnOk c.push_at_slot-in-RowDiffers.result (string_bytes c.push_at_slot-in-RowDiffers.new.text ≡ string_bytes c.args.text.now
-    ++ line (at_slot number (codes "row-differs") c.in-RowDiffers.page c.in-RowDiffers.slot))) c.named-in-RowDiffers.ensures.number
-    (subst (λ (name : List ℕ). OnOk c.push_at_slot-in-RowDiffers.result (string_bytes c.push_at_slot-in-RowDiffers.new.text ≡ string_bytes c.args.text.now
-    ++ line (at_slot c.named-in-RowDiffers.result.number name c.in-RowDiffers.page c.in-RowDiffers.slot))) c.named-in-RowDiffers.ensures.name
-    (subst (λ (slot : ℕ). OnOk c.push_at_slot-in-RowDiffers.result (string_bytes c.push_at_slot-in-RowDiffers.new.text ≡ string_bytes c.args.text.now
-    ++ line (at_slot c.named-in-RowDiffers.result.number c.named-in-RowDiffers.result.name.now c.in-RowDiffers.page slot))) c.from-in-RowDiffers.ensures c.push_at_slot-in-RowDiffers.ensures)))
+    told _ _ _
+    (ap (λ (m : Member). of_page 6 (codes "row-differs") c.in-RowDiffers.page (m ∷ [])) c.at-in-RowDiffers.ensures
+    ∙ sym (ap reason_members c.in-RowDiffers.is)) c.push_of_page-in-RowDiffers.ensures
 
 pub returns-in-LinksDiffer : goal.returns-in-LinksDiffer
 returns-in-LinksDiffer c =
-    subst (λ r. OnOk c.push_at_slot-in-LinksDiffer.result (string_bytes c.push_at_slot-in-LinksDiffer.new.text ≡ string_bytes c.args.text.now
-    ++ line (reason_members r))) (sym c.in-LinksDiffer.is)
-    (subst (λ (number : ℕ). OnOk c.push_at_slot-in-LinksDiffer.result (string_bytes c.push_at_slot-in-LinksDiffer.new.text ≡ string_bytes c.args.text.now
-    ++ line (at_slot number (codes "links-differ") c.in-LinksDiffer.page c.in-LinksDiffer.slot))) c.named-in-LinksDiffer.ensures.number
-    (subst (λ (name : List ℕ). OnOk c.push_at_slot-in-LinksDiffer.result (string_bytes c.push_at_slot-in-LinksDiffer.new.text ≡ string_bytes c.args.text.now
-    ++ line (at_slot c.named-in-LinksDiffer.result.number name c.in-LinksDiffer.page c.in-LinksDiffer.slot))) c.named-in-LinksDiffer.ensures.name
-    (subst (λ (slot : ℕ). OnOk c.push_at_slot-in-LinksDiffer.result (string_bytes c.push_at_slot-in-LinksDiffer.new.text ≡ string_bytes c.args.text.now
-    ++ line (at_slot c.named-in-LinksDiffer.result.number c.named-in-LinksDiffer.result.name.now c.in-LinksDiffer.page slot))) c.from-in-LinksDiffer.ensures c.push_at_slot-in-LinksDiffer.ensures)))
+    told _ _ _
+    (ap (λ (m : Member). of_page 7 (codes "links-differ") c.in-LinksDiffer.page (m ∷ [])) c.at-in-LinksDiffer.ensures
+    ∙ sym (ap reason_members c.in-LinksDiffer.is)) c.push_of_page-in-LinksDiffer.ensures
+
+pub returns-in-LateBlank : goal.returns-in-LateBlank
+returns-in-LateBlank c =
+    told _ _ _
+    (ap (λ (m : Member). of_item 12 (codes "late-blank") c.in-LateBlank.page c.in-LateBlank.item (m ∷ []))
+    (c.count-in-LateBlank.ensures ∙ ap (count (codes "header")) c.from-in-LateBlank.ensures) ∙ sym (ap reason_members c.in-LateBlank.is))
+    c.push_of_item-in-LateBlank.ensures

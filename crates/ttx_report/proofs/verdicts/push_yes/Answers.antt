@@ -1,7 +1,7 @@
 use Rattle.std.proofs.Common.{◌∙◌, ◌≡◌, ◌++◌, ◌*◌, ◌/◌, [], ap, length, string_bytes, subst, OnOk}
 use Rattle.std.specs.Prelude.{codes, replicate, slice_index_or}
 use Rattle.ttx_document.proofs.Joins.{joined, more}
-use Rattle.ttx_witness.specs.Certificates.{fields_of}
+use Rattle.ttx_certificate.specs.Certificates.{fields_of}
 use Rattle.ttx_report.specs.Verdicts.{yes_words, shows_text}
 use Rattle.ttx_report.proofs.verdicts.push_yes.Goals as goal
 

@@ -2,7 +2,7 @@ use Rattle.std.proofs.Common.{sym, subst}
 use Rattle.ttx_cycle.specs.Counters.{inner_of}
 use Rattle.ttx_cycle.specs.Cycles.{slots_of}
 use Rattle.ttx_source.specs.Services.{pages_of}
-use Rattle.ttx_witness.specs.Certificates.{certificate_of}
+use Rattle.ttx_certificate.specs.Certificates.{certificate_of}
 use Rattle.ttx_monitor.specs.FeedVerdicts.{IsFoundIn, BeginsAt}
 use Rattle.ttx_monitor.specs.Watching.{watched}
 use Rattle.ttx_monitor.proofs.HeardFeeds.{if_known}

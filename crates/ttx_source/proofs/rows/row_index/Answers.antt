@@ -1,18 +1,29 @@
-use Rattle.std.proofs.Common.{◌≡◌, ◌∙◌, ℕ, List, Bor, map, rules}
-use Rattle.std.specs.List.{list_any}
-use Rattle.std.specs.Str.{bytes_eq}
-use Rattle.ttx_source.specs.Keys.{row_keys, is_row_key}
-use Rattle.ttx_source.proofs.RowValues.{is_some-position, row_placed}
+use Rattle.std.proofs.Common.{◌≡◌, ◌∙◌, Some, None, ap, arith, sym}
+use Rattle.ttx_digits.specs.Digits.{number_in_word}
+use Rattle.ttx_source.proofs.RowKeys.{is_key, key_at, no_key}
 use Rattle.ttx_source.proofs.rows.row_index.Goals as goal
 
-pub returns-clause-among : goal.returns-clause-among
-unfolding row_keys
-returns-clause-among c =
-    let any : list_any (λ (name : Bor (List ℕ)). bytes_eq name.now c.args.key.now) c.as_slice.result.now ≡ is_row_key c.args.key.now = search rules in
-    rw c.place_among.ensures (is_some-position _ c.as_slice.result.now ∙ any)
+pub returns-in-Some-clause-among : goal.returns-in-Some-clause-among
+returns-in-Some-clause-among c =
+    let read : number_in_word c.args.key.now ≡ Some c.in-Some.row = ap number_in_word (sym c.as_bytes.ensures.value) ∙ sym c.number.ensures.value ∙ c.in-Some.is in
+    sym (is_key c.read_numbers_are_written.ensures _ _ read c.if-row-ge1.true c.if-row-le24.true)
 
-pub returns-clause-place : goal.returns-clause-place
-unfolding row_keys
-returns-clause-place c =
-    let same : map (λ (name : Bor (List ℕ)). name.now) c.as_slice.result.now ≡ row_keys = search rules in
-    row_placed c.as_slice.result.now c.args.key.now c.place_among.result same c.place_among.ensures
+pub returns-in-Some-clause-place : goal.returns-in-Some-clause-place
+returns-in-Some-clause-place c =
+    let read : number_in_word c.args.key.now ≡ Some c.in-Some.row = ap number_in_word (sym c.as_bytes.ensures.value) ∙ sym c.number.ensures.value ∙ c.in-Some.is in
+    (omega (arith, c.if-row-ge1.true, c.if-row-le24.true), key_at c.read_numbers_are_written.ensures _ _ read c.if-row-ge1.true c.if-row-le24.true)
+
+pub returns-in_default-clause-among : goal.returns-in_default-clause-among
+returns-in_default-clause-among c =
+    let read : number_in_word c.args.key.now ≡ Some c.in-Some.row = ap number_in_word (sym c.as_bytes.ensures.value) ∙ sym c.number.ensures.value ∙ c.in-Some.is in
+    sym (no_key c.args.key.now (Some c.in-Some.row) read (λ r within same. omega (arith, same, within, c.if-row-le24.false)))
+
+pub returns-in_default-2-clause-among : goal.returns-in_default-2-clause-among
+returns-in_default-2-clause-among c =
+    let read : number_in_word c.args.key.now ≡ Some c.in-Some.row = ap number_in_word (sym c.as_bytes.ensures.value) ∙ sym c.number.ensures.value ∙ c.in-Some.is in
+    sym (no_key c.args.key.now (Some c.in-Some.row) read (λ r within same. omega (arith, same, within, c.if-row-ge1.false)))
+
+pub returns-in_default-3-clause-among : goal.returns-in_default-3-clause-among
+returns-in_default-3-clause-among c =
+    let read : number_in_word c.args.key.now ≡ None = ap number_in_word (sym c.as_bytes.ensures.value) ∙ sym c.number.ensures.value ∙ c.in_default.is in
+    sym (no_key c.args.key.now None read (λ r within same. omega (arith, same)))

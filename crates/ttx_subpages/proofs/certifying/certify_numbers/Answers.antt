@@ -1,7 +1,7 @@
 use Rattle.std.proofs.Common.{map, subst, sym}
 use Rattle.ttx_cycle.specs.Cycles.{slots_of, slots_of-IsCycle}
 use Rattle.ttx_page.specs.Views.{page_of}
-use Rattle.ttx_witness.specs.Certificates.{certificate_of}
+use Rattle.ttx_certificate.specs.Certificates.{certificate_of}
 use Rattle.ttx_source.specs.Services.{pages_of}
 use Rattle.ttx_certify.specs.Laws.{ArePages}
 use Rattle.ttx_certify.proofs.AuthoredIds.{distinct_ids}

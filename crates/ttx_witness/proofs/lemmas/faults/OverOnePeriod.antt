@@ -11,10 +11,11 @@ use Rattle.ttx_page.specs.declared.selection.Selection.TheVariants.{AnySub}
 use Rattle.ttx_page.specs.declared.item.Item.TheVariants.{Head as TheHead, Row as TheRow, Links as TheLinks}
 use Rattle.ttx_page.specs.Streams.{Stream, repeated, heads, heads_page, heads_matched, ends_serial, IsOwned, IsTransmission, IsLatestHeader}
 use Rattle.ttx_page.specs.Steady.{HasHeader}
-use Rattle.ttx_witness.specs.sent.ItemTransmissions.{PageOwner, owner_after, owner_scan, owner_moved, tainted_by, entry_owner}
+use Rattle.ttx_witness.specs.sent.ItemTransmissions.{PageOwner, owner_after, owner_scan, tainted_by, entry_owner}
 use Rattle.ttx_witness.specs.faults.Comparing.{is_mine, mine_after, sends, compared_item, IsWrong, WrongAt, OtherHeaderAt, heads_other_subpage}
 use Rattle.ttx_witness.specs.declared.faults.comparing.Check.{Check}
 use Rattle.ttx_witness.specs.faults.Faults.{Never}
+use Rattle.ttx_witness.specs.faults.FirstSlots.{SentBelow}
 use Rattle.ttx_witness.proofs.lemmas.runs.EveryPeriod.{everywhere}
 use Rattle.ttx_witness.proofs.lemmas.sent.Periods.{latest_same}
 use Rattle.ttx_witness.proofs.lemmas.sent.StreamOwners as O
@@ -28,10 +29,6 @@ slot_is cycle j lt = ap (λ n. slice_index_or cycle n []) (mod-eq_of_lt lt)
 mine_tainted : (b : Bool) (o : Option PageOwner) → is_mine (tainted_by b o) ≡ is_mine o
 mine_tainted b None = refl
 mine_tainted b (Some o) = refl
-
-mine_moved : (d : ℤ) (o : Option PageOwner) → is_mine (owner_moved d o) ≡ is_mine o
-mine_moved d None = refl
-mine_moved d (Some o) = refl
 
 mine_step : (page : Id) (j : ℤ) (packet : Packet) (o : Option PageOwner) → mine_after page packet (is_mine o) ≡ is_mine (owner_after page j packet o)
 mine_step page j packet o = cond_both (heads page.mag packet) _ _ (λ x. mine_after page packet (is_mine o) ≡ is_mine x)
@@ -55,7 +52,7 @@ module _ (page : Id) (s : Stream) (j : ℤ) where
     (λ t. a.mine ∙ subst (λ h. heads_page page (packet_of (s h)) ≡ true) (latest_same s page.mag t.0 o.slot j t.1 a.latest) t.2),
   )
 
-  pub sends_is : (item : Item) (o : Option PageOwner) → O.IsOwnerAt page s o j → (sends page item (packet_of (s j)) (is_mine o) ≡ true)
+  sends_is : (item : Item) (o : Option PageOwner) → O.IsOwnerAt page s o j → (sends page item (packet_of (s j)) (is_mine o) ≡ true)
       ↔ IsTransmission s page item j
   sends_is TheHead o a = ((λ e. record { owner = j; owned = (refl, e) }), (λ t. t.owned.1))
   sends_is (TheRow r) o a = (
@@ -74,10 +71,10 @@ module _ (cycle : List (List ℕ)) (some : 1 ≤ length cycle) where
   abbrev n : ℕ
   n = length cycle
 
-  period : (i : ℤ) → s (i +ℤ pos n) ≡ s i
+  pub period : (i : ℤ) → s (i +ℤ pos n) ≡ s i
   period = period_of cycle
 
-  back : (i : ℤ) → s (i -ℤ pos n) ≡ s i
+  pub back : (i : ℤ) → s (i -ℤ pos n) ≡ s i
   back i = let e : (i -ℤ pos n) +ℤ pos n ≡ i = omega (arith, ints) in sym (period (i -ℤ pos n)) ∙ ap s e
 
   -- what holds at no slot of a period holds nowhere
@@ -127,8 +124,14 @@ module _ (cycle : List (List ℕ)) (some : 1 ≤ length cycle) where
       (λ i. subst (λ x. heads_page page (packet_of x) ≡ true) (back i)) none h.slot h.is_header
 
   -- the owner at each slot of the period
-  pub owner_at : (page : Id) (j : ℕ) → O.IsOwnerAt page s (owner_scan page s (entry_owner cycle page) j) (pos j)
+  owner_at : (page : Id) (j : ℕ) → O.IsOwnerAt page s (owner_scan page s (entry_owner cycle page) j) (pos j)
   owner_at page j = O.scan_right page s (entry_owner cycle page) (O.first_entry page s n some period) j
+
+  -- the slots that send an item
+  pub all_sent : (page : Id) (item : Item) (j : ℕ) → SentBelow page s (entry_owner cycle page) n item j ↔ ((j < n) × IsTransmission s page item (pos j))
+  all_sent page item j =
+      let is = sends_is page s (pos j) item (owner_scan page s (entry_owner cycle page) j) (owner_at page j) in
+      ((λ h. (h.0, is.0 h.1)), (λ h. (h.0, is.1 h.1)))
 
 pub other_is : (s : Stream) (page : Id) (j : ℤ) → (heads_other_subpage page (packet_of (s j)) ≡ true) ↔ OtherHeaderAt s page j
 other_is s page j = (
@@ -140,20 +143,3 @@ other_is s page j = (
 pub one_more : (P : ℕ → Type 0) (j : ℕ) → ((i : ℕ) → i < j → P i → ⊥) → (P j → ⊥) → (i : ℕ) → i < j + 1 → P i → ⊥
 one_more P j none not i lt q = elim (cases_lt i j) as (λ _. ⊥)
     [ inl less ↦ none i less q | inr ge ↦ let e : i ≡ j = omega arith in not (subst P e q) ]
-
--- a slot of the period that sends something that differs
-pub wrong_is : (cycle : List (List ℕ)) → 1 ≤ length cycle → (p : Page) (check : Check) (j : ℕ) → j < length cycle → (mine : Bool) →
-    mine ≡ is_mine (owner_scan p.id (repeated cycle) (entry_owner cycle p.id) j) →
-    ((sends p.id (compared_item check) (packet_of (slice_index_or cycle j [])) mine ≡ true)
-    × IsWrong p check (slice_index_or cycle j [])) ↔ WrongAt (repeated cycle) p check (pos j)
-wrong_is cycle some p check j lt mine e =
-    let at = slot_is cycle j lt in
-    let o = owner_scan p.id (repeated cycle) (entry_owner cycle p.id) j in
-    let r = sends_is p.id (repeated cycle) (pos j) (compared_item check) o (owner_at cycle some p.id j) in
-    let same : sends p.id (compared_item check) (packet_of (slice_index_or cycle j [])) mine
-    ≡ sends p.id (compared_item check) (packet_of (repeated cycle (pos j))) (is_mine o) =
-    ap (λ x. sends p.id (compared_item check) (packet_of x) mine) (sym at)
-    ∙ ap (λ m. sends p.id (compared_item check) (packet_of (repeated cycle (pos j))) m) e in (
-      (λ h. record { sent = r.0 (sym same ∙ h.0); wrong = subst (IsWrong p check) (sym at) h.1 }),
-      (λ w. (same ∙ r.1 w.sent, subst (IsWrong p check) at w.wrong)),
-    )

@@ -1,7 +1,8 @@
 -- Bytes that send characters, tested by the union of all differences.
 use Rattle.std.proofs.Common.{◌≡◌, ◌↔◌, ℕ, zero, suc, ◌+◌, ◌-◌, ◌*◌, ◌/◌, ◌%◌, ◌<◌, ◌≤◌, ◌==◌, ◌&&◌, Bool, true, List, [], ◌∷◌, map, length, get_or}
-use Rattle.std.proofs.Common.{drop, bit_and, bit_or, refl, sym, ap, ◌∙◌, arith, eqb, ltb, eqb-true, eq-eqb}
+use Rattle.std.proofs.Common.{◌++◌, take, drop, bit_and, bit_or, refl, sym, ap, ◌∙◌, arith, eqb, ltb, eqb-true, eq-eqb}
 use Rattle.std.proofs.lemmas.Bool.{agree_below, agree_below_at, ltb-true, and_from, and_parts}
+use Rattle.std.proofs.lemmas.List.{drop-map, map-append, take-append-drop, take-map}
 use Rattle.std.proofs.Math.Bool.{and-true, and_assoc}
 use Rattle.std.specs.Int.Bits.{bit_xor}
 use Rattle.ttx_packet.proofs.Unions.{no_bit}
@@ -74,3 +75,19 @@ sent_whole (b ∷ bytes) (c ∷ characters) (suc n) e le =
           ∙ ap (λ xs. odd_byte c ∷ xs) (rest.0 ((and_parts (b == odd_byte c) _ t).1))),
       (λ q. and_from _ _ (eq-eqb _ _ (ap (λ xs. get_or xs 0 0) q)) (rest.1 (ap (drop 1) q))),
     )
+
+-- the first bytes and the rest are sent exactly if all are
+pub whole_sent : (n : ℕ) (bytes characters : List ℕ) → take n bytes ≡ map odd_byte (take n characters) →
+    drop n bytes ≡ map odd_byte (drop n characters) → bytes ≡ map odd_byte characters
+whole_sent n bytes characters front back =
+    sym (take-append-drop n bytes)
+    ∙ ap (λ xs. xs ++ drop n bytes) front
+    ∙ ap (λ xs. map odd_byte (take n characters) ++ xs) back
+    ∙ sym (map-append odd_byte (take n characters) (drop n characters))
+    ∙ ap (map odd_byte) (take-append-drop n characters)
+
+pub front_sent : (n : ℕ) (bytes characters : List ℕ) → bytes ≡ map odd_byte characters → take n bytes ≡ map odd_byte (take n characters)
+front_sent n bytes characters h = ap (take n) h ∙ take-map odd_byte n characters
+
+pub back_sent : (n : ℕ) (bytes characters : List ℕ) → bytes ≡ map odd_byte characters → drop n bytes ≡ map odd_byte (drop n characters)
+back_sent n bytes characters h = ap (drop n) h ∙ drop-map odd_byte n characters

@@ -1,10 +1,10 @@
 -- The certificate that names every start of a sure run, and its least deadline.
 use Rattle.std.proofs.Common.{◌≡◌, ◌⊎◌, ◌↔◌, ℕ, zero, suc, ◌+◌, ◌-◌, ◌*◌, ◌<◌, ◌≤◌, ℤ, Bool, true, false, not, ◌&&◌, ◌==◌, if◌then◌else◌, List, []}
-use Rattle.std.proofs.Common.{◌∷◌, map, length, get_or, slice_get, slice_index_or, Option, Some, None, unwrap_or, refl, sym, ap, ◌∙◌, subst, inl, inr}
+use Rattle.std.proofs.Common.{◌∷◌, ◌++◌, map, length, get_or, slice_get, slice_index_or, Option, Some, None, unwrap_or, refl, sym, ap, ◌∙◌, subst, inl, inr}
 use Rattle.std.proofs.Common.{arith, eqb-true, eq-eqb}
 use Rattle.std.specs.List.{All, AllByRecursion, AllPairs, Contains}
 use Rattle.std.proofs.lemmas.Option.{slice_get_within, slice_get_cases}
-use Rattle.std.proofs.lemmas.List.{length-map}
+use Rattle.std.proofs.lemmas.List.{length-map, length-append}
 use Rattle.std.proofs.lemmas.Bool.{cases_lt, leb-true, cases_Bool, and_from, and_parts, both_ways, cond-true, cond-false}
 use Rattle.std.specs.Prelude.{nat_le, is_some, is_none, IsTrue, MatchOption}
 use Rattle.ttx_header.specs.Control.{c10}
@@ -22,6 +22,11 @@ use Rattle.ttx_page.specs.Views.{page_of}
 use Rattle.ttx_page.specs.Streams.{run_length, repeated}
 use Rattle.ttx_page.specs.Steady.{Steady}
 use Rattle.ttx_witness.specs.faults.Reasons.{BadSlotAt}
+use Rattle.ttx_witness.specs.faults.Faults.{IsPageFault, AreFaults, HaveFaults}
+use Rattle.ttx_witness.specs.declared.faults.reason.Reason.{Reason}
+use Rattle.ttx_witness.specs.declared.faults.reason.PageFault.{PageFault}
+use Rattle.ttx_witness.proofs.lemmas.faults.NoFault.{steady_has_no_fault}
+use Rattle.ttx_witness.proofs.lemmas.GrownLists.{before_here, last_here}
 use Rattle.ttx_page.specs.declared.item.Item.{Item}
 use Rattle.ttx_page.specs.declared.item.Item.TheVariants.{Head as TheHead, Row as TheRow, Links as TheLinks}
 use Rattle.ttx_page.specs.declared.class.Class.{Class}
@@ -396,24 +401,37 @@ named_sorted cycle pages class lines repeat m xs ys least perm a = record {
   least_from = a.least_from;
 }
 
--- the answers for all pages
-abbrev pub TellsSteady : List (List ℕ) → List Page → ℕ → Bool → Type 0
-TellsSteady cycle pages index b = (p : Page) → slice_get pages index ≡ Some p → IsTrue b ↔ Steady (repeated cycle) pages p
-
-pub not_unchanged : (cycle : List (List ℕ)) (pages : List PageValue) (index : ℕ) (b : Bool) → index < length pages →
-    TellsSteady cycle (map page_of pages) index b → b ≡ false → IsSentUnchanged cycle (map page_of pages) → ⊥
-not_unchanged cycle pages index b lt tells e u = elim (slice_get_cases (map page_of pages) index).1 as (λ _. ⊥) [
-  | inl w ↦ both_ways b e ((tells w.0 w.2).1 (u.steady index w.0 w.2))
-  | inr past ↦ let l = length-map pages page_of in let p = past.0 in omega arith
+-- the faults of all pages
+pub fault_not_unchanged : (cycle : List (List ℕ)) (pages : List Page) (faults : List PageFault) → AreFaults cycle pages faults →
+    (n : ℕ) (fault : PageFault) → slice_get faults n ≡ Some fault → is_some fault.reason ≡ true → IsSentUnchanged cycle pages → ⊥
+fault_not_unchanged cycle pages faults told n fault at some u = elim (slice_get_cases pages n).1 as (λ _. ⊥) [
+  | inl w ↦ let none = (steady_has_no_fault cycle pages w.0 fault.reason (told.each n w.0 fault w.2 at)).1 (u.steady n w.0 w.2)
+      in both_ways (is_some fault.reason) (ap is_some none) some
+  | inr past ↦ let c = told.count in let p = past.0 in let w = slice_get_within faults n fault at in omega arith
 ]
 
-pub steady_more : (cycle : List (List ℕ)) (pages : List Page) (index : ℕ) (b : Bool) → TellsSteady cycle pages index b → b ≡ true →
-    ((n : ℕ) (p : Page) → n < index → slice_get pages n ≡ Some p → Steady (repeated cycle) pages p) → (n : ℕ) (p : Page) → n < index
-    + 1 → slice_get pages n ≡ Some p → Steady (repeated cycle) pages p
-steady_more cycle pages index b tells e before n p lt at = elim (cases_lt n index) as (λ _. Steady (repeated cycle) pages p) [
-  | inl low ↦ before n p low at
-  | inr ge ↦ let q : n ≡ index = omega arith in (tells p (subst (λ k. slice_get pages k ≡ Some p) q at)).0 e
+pub none_is_steady : (cycle : List (List ℕ)) (pages : List Page) (faults : List PageFault) → AreFaults cycle pages faults →
+    ((n : ℕ) (fault : PageFault) → slice_get faults n ≡ Some fault → fault.reason ≡ None) → (n : ℕ) (p : Page) → slice_get pages n ≡ Some p →
+    Steady (repeated cycle) pages p
+none_is_steady cycle pages faults told none n p at = elim (slice_get_cases faults n).1 as (λ _. Steady (repeated cycle) pages p) [
+  | inl w ↦ (steady_has_no_fault cycle pages p w.0.reason (told.each n p w.0 at w.2)).0 (none n w.0 w.2)
+  | inr past ↦ absurd (let c = told.count in let f = past.0 in let w = slice_get_within pages n p at in omega arith)
 ]
+
+pub one_more_fault : (cycle : List (List ℕ)) (pages : List Page) (faults : List PageFault) (fault : PageFault) (p : Page) →
+    slice_get pages (length faults) ≡ Some p → IsPageFault cycle pages p fault.reason → HaveFaults cycle pages faults →
+    HaveFaults cycle pages (faults ++ fault ∷ [])
+one_more_fault cycle pages faults fault p here is told n q it there at =
+    elim (cases_lt n (length faults)) as (λ _. IsPageFault cycle pages q it.reason) [
+      | inl low ↦ told n q it there (sym (before_here faults (fault ∷ []) n low) ∙ at)
+      | inr high ↦
+          let within : n < length faults + 1 = let w = slice_get_within (faults ++ fault ∷ []) n it at
+          in let l = length-append faults (fault ∷ []) in omega arith in
+          let last : n ≡ length faults = omega arith in
+          let page : p ≡ q = let e = ap (slice_get pages) last in cc in
+          let same : fault ≡ it = let e = ap (slice_get (faults ++ fault ∷ [])) last in let l = last_here faults fault in cc in
+          subst (λ f. IsPageFault cycle pages q f.reason) same (subst (λ r. IsPageFault cycle pages r fault.reason) page is)
+    ]
 
 pub clean_all : (cycle : List (List ℕ)) (P : ℕ → Type 0) (o : Option ℕ) → MatchOption o ((j : ℕ) → BadSlotAt cycle j → ⊥) P → is_some o
     ≡ false → (n : ℕ) → n < length cycle → is_clean (slice_index_or cycle n []) ≡ true
@@ -421,15 +439,11 @@ clean_all cycle P None m e n lt = elim (cases_Bool (is_clean (slice_index_or cyc
     [ inl c ↦ c | inr f ↦ absurd (m n (record { within = lt; bad = f })) ]
 clean_all cycle P (Some j) m e n lt = cc
 
-pub tells_of : (cycle : List (List ℕ)) (pages : List Page) (index : ℕ) (b : Bool) (q : Page) → slice_get pages index ≡ Some q → IsTrue b
-    ↔ Steady (repeated cycle) pages q → TellsSteady cycle pages index b
-tells_of cycle pages index b q at h p there = let same : q ≡ p = cc in subst (λ x. IsTrue b ↔ Steady (repeated cycle) pages x) same h
-
 pub bad_not_unchanged : (cycle : List (List ℕ)) (pages : List Page) (A : Type 0) (R : ℕ → Type 0) (o : Option ℕ) →
     MatchOption o A (λ j. BadSlotAt cycle j × R j) → is_some o ≡ true → IsSentUnchanged cycle pages → ⊥
 bad_not_unchanged cycle pages A R None m e u = cc
 bad_not_unchanged cycle pages A R (Some j) m e u = both_ways _ m.0.bad (u.clean j m.0.within)
 
-pub none_of : {A : Type 0} (o : Option A) → is_none o ≡ true → o ≡ None
-none_of None e = refl
-none_of (Some a) e = cc
+pub is_none_of : (fault : Option Reason) → is_some fault ≡ false → fault ≡ None
+is_none_of None e = refl
+is_none_of (Some reason) e = cc

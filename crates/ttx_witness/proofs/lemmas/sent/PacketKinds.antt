@@ -37,33 +37,6 @@ no_page page (Links mag content) n = refl
 no_page page Info n = refl
 no_page page Other n = refl
 
-pub no_subpage : (page : Id) (packet : Packet) → HoldsNoHeader packet → heads_other_subpage page packet ≡ false
-no_subpage page Empty n = refl
-no_subpage page Unreadable n = refl
-no_subpage page (Header id control text) n = absurd n
-no_subpage page (Row mag number text) n = refl
-no_subpage page (Links mag content) n = refl
-no_subpage page Info n = refl
-no_subpage page Other n = refl
-
-pub no_change : (page : Id) (packet : Packet) (mine : Bool) → HoldsNoHeader packet → mine_after page packet mine ≡ mine
-no_change page Empty mine n = refl
-no_change page Unreadable mine n = refl
-no_change page (Header id control text) mine n = absurd n
-no_change page (Row mag number text) mine n = refl
-no_change page (Links mag content) mine n = refl
-no_change page Info mine n = refl
-no_change page Other mine n = refl
-
-pub no_erasing : (packet : Packet) → HoldsNoHeader packet → erases_page packet ≡ false
-no_erasing Empty n = refl
-no_erasing Unreadable n = refl
-no_erasing (Header id control text) n = absurd n
-no_erasing (Row mag number text) n = refl
-no_erasing (Links mag content) n = refl
-no_erasing Info n = refl
-no_erasing Other n = refl
-
 -- a packet that is not a row, or not an X/27/0
 pub no_row : (mag r : ℕ) (packet : Packet) → HoldsNoRow packet → carries mag (TheRow r) packet ≡ false
 no_row mag r Empty n = refl

@@ -19,7 +19,7 @@ use Rattle.ttx_witness.specs.declared.waiting.wait.OwnWait.TheVariants.{Least, N
 use Rattle.ttx_witness.specs.declared.waiting.wait.Wait.{Wait}
 use Rattle.ttx_witness.specs.declared.waiting.wait.Wait.TheVariants.{Fields, Faulty, Unsure}
 use Rattle.ttx_witness.proofs.lemmas.finding.LeastDeadline.{item_needed, due_needed}
-use Rattle.ttx_witness.proofs.lemmas.ChangedPlaces.{before_here, last_here}
+use Rattle.ttx_witness.proofs.lemmas.GrownLists.{before_here, last_here}
 use Rattle.ttx_witness.proofs.lemmas.waiting.ItemByItem.{item_is}
 use Rattle.ttx_witness.proofs.lemmas.waiting.PageDeadline.{accepted_shows, no_start_never}
 use Rattle.ttx_witness.proofs.lemmas.sent.ItemPlaces.{item_small}

@@ -9,11 +9,11 @@ use Rattle.ttx_page.specs.declared.item.Item.{Item}
 use Rattle.ttx_page.specs.declared.item.Item.TheVariants.{Head as TheHead, Row as TheRow, Links as TheLinks}
 use Rattle.ttx_page.specs.declared.class.Class.{Class}
 use Rattle.ttx_witness.specs.sent.Collected.{IsItem, item_number}
-use Rattle.ttx_witness.specs.passes.ItemProgress.{HoldsAt}
+use Rattle.ttx_witness.specs.Elements.{HoldsAt}
 use Rattle.ttx_witness.specs.waiting.ItemWaits.{item_at, seen_below, IsItemWait, AreItemsTold, AreItemWaits}
 use Rattle.ttx_witness.specs.declared.waiting.wait.ItemWait.{ItemWait}
 use Rattle.ttx_witness.specs.declared.waiting.wait.OwnWait.{OwnWait}
-use Rattle.ttx_witness.proofs.lemmas.ChangedPlaces.{before_here, last_here}
+use Rattle.ttx_witness.proofs.lemmas.GrownLists.{before_here, last_here}
 use Rattle.ttx_witness.proofs.lemmas.finding.DueItems.{all_append}
 
 pub item_is : (item : Item) → IsItem item → item_at (item_number item) ≡ item

@@ -5,7 +5,7 @@ use Rattle.std.specs.List.{Contains}
 use Rattle.std.proofs.lemmas.Bool.{cases_lt, cases_Bool, cond_both, both_ways, cond-true, cond-false}
 use Rattle.std.proofs.lemmas.List.{length-map, length-append}
 use Rattle.std.proofs.lemmas.Option.{slice_get_within}
-use Rattle.ttx_witness.proofs.lemmas.ChangedPlaces.{before_here, last_here}
+use Rattle.ttx_witness.proofs.lemmas.GrownLists.{before_here, last_here}
 use Rattle.ttx_page.specs.Views.{page_of}
 use Rattle.ttx_page.specs.declared.page.Page.{Page as PageValue}
 use Rattle.ttx_witness.specs.declared.waiting.wait.PageWait.{PageWait}

@@ -1,5 +1,5 @@
 use Rattle.std.proofs.Common.{ap, ◌∙◌}
-use Rattle.ttx_witness.specs.Certificates.{fields_of}
+use Rattle.ttx_certificate.specs.Certificates.{fields_of}
 use Rattle.ttx_certify.specs.VerdictLines.{verdict_line}
 use Rattle.ttx_certify.proofs.files.AtOnceJudge.judge.Goals as goal
 

@@ -1,7 +1,7 @@
 use Rattle.std.proofs.Common.{◌≡◌, ℕ, ◌≤◌, length, min, subst, arith}
 use Rattle.ttx_cycle.specs.Files.{IsCycle}
 use Rattle.ttx_cycle.specs.Cycles.{slots_of-IsCycle}
-use Rattle.ttx_witness.specs.Certificates.{certificate_of}
+use Rattle.ttx_certificate.specs.Certificates.{certificate_of}
 use Rattle.ttx_witness.specs.Coverage.{limit}
 use Rattle.ttx_monitor.proofs.monitor.Monitor.lasts.Goals as goal
 

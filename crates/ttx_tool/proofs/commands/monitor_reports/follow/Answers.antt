@@ -4,7 +4,7 @@ use Rattle.ttx_cycle.specs.Counters.{inner_of}
 use Rattle.ttx_cycle.specs.Cycles.{slots_of}
 use Rattle.ttx_monitor.specs.FeedReports.{ReportsFeed}
 use Rattle.ttx_source.specs.Services.{pages_of}
-use Rattle.ttx_witness.specs.Certificates.{certificate_of}
+use Rattle.ttx_certificate.specs.Certificates.{certificate_of}
 use Rattle.ttx_tool.specs.MonitorReports.{report_words}
 use Rattle.ttx_tool.proofs.commands.monitor_reports.follow.Goals as goal
 

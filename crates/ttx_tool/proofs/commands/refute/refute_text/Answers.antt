@@ -5,7 +5,7 @@ use Rattle.ttx_cycle.specs.Files.{IsPacketFile}
 use Rattle.ttx_files.proofs.KnownFiles.{known}
 use Rattle.ttx_files.specs.Known.{first, second, third}
 use Rattle.ttx_files.specs.Texts.{IsServiceText, IsCertificateText}
-use Rattle.ttx_witness.specs.Certificates.{fields_of}
+use Rattle.ttx_certificate.specs.Certificates.{fields_of}
 use Rattle.ttx_tool.specs.Refute.{IsRefutingFiles}
 use Rattle.ttx_tool.proofs.commands.refute.refute_text.Goals as goal
 

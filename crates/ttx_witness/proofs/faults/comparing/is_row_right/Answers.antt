@@ -10,4 +10,4 @@ returns-in-Some c =
     (drop 2 c.args.slot.now) _ c.in-Some.ensures in
     let e = ap (λ n. map odd_byte (slice_index_or c.rows.result.now (n - 1) [])) (c.from.ensures ∙ c.number.ensures.value)
     ∙ ap (λ rows. map odd_byte (slice_index_or rows (c.args.row - 1) [])) c.rows.ensures in
-    ((λ t. w.1 (sym c.text_in.ensures ∙ c.are_sent.ensures.0 t ∙ e)), (λ h. c.are_sent.ensures.1 (c.text_in.ensures ∙ w.0 h ∙ sym e)))
+    ((λ t. w.1 (sym c.text_in.ensures ∙ c.is_row_sent.ensures.0 t ∙ e)), (λ h. c.is_row_sent.ensures.1 (c.text_in.ensures ∙ w.0 h ∙ sym e)))

@@ -1,56 +1,46 @@
-use Rattle.std.proofs.Common.{rules, ◌≡◌, true, false, IsTrue, ◌↔◌, refl, subst, arith}
-use Rattle.ttx_page.specs.Views.{page_of}
-use Rattle.std.proofs.lemmas.Option.{slice_get_within}
-use Rattle.std.proofs.lemmas.List.{length-map}
-use Rattle.ttx_witness.specs.finding.Surveys.{survey_slots, survey_pages, surveyed_page, AreOthersIn, IsSteadyIn}
-use Rattle.ttx_witness.proofs.lemmas.finding.LeastDeadline.{not_unchanged, steady_more, clean_all, tells_of, bad_not_unchanged}
-use Rattle.ttx_witness.proofs.lemmas.finding.Surveys.{surveyed_here}
+use Rattle.std.proofs.Common.{rules, ◌≡◌, true, false, Some, None, slice_get, refl, sym, ap, ◌∙◌, inl, inr, arith}
+use Rattle.std.proofs.lemmas.Bool.{cases_lt}
+use Rattle.std.proofs.lemmas.Option.{slice_get_read, slice_get_within}
+use Rattle.ttx_witness.specs.finding.Surveys.{survey_slots, survey_pages}
+use Rattle.ttx_witness.proofs.lemmas.finding.LeastDeadline.{fault_not_unchanged, none_is_steady, clean_all, bad_not_unchanged, is_none_of}
 use Rattle.ttx_witness.proofs.finding.certificates.is_sent_unchanged.Goals as goal
 
 pub returns-then-is_some : goal.returns-then-is_some
-returns-then-is_some c = λ others. (
+returns-then-is_some c = λ told. (
   (λ t. let h : false ≡ true = t in cc),
   (λ u. absurd (bad_not_unchanged (survey_slots c.args.survey.now)
       (survey_pages c.args.survey.now) _ _ c.bad_slot.result c.bad_slot.ensures (search rules) u)),
 )
 
-pub returns-then-not-is_steady : goal.returns-then-not-is_steady
-returns-then-not-is_steady c = λ others.
-    let e : c.is_steady.result ≡ false = search rules in
-    let v = c.args.survey.now in
-    let s = c.surveyed_at.result in
-    let at = surveyed_here v c.loop-index.index s c.surveyed_at.ensures.survey c.surveyed_at.ensures.index in
-    let steady = subst (λ w. AreOthersIn w c.args.others.now → IsTrue c.is_steady.result ↔ IsSteadyIn w (surveyed_page s))
-    c.surveyed_at.ensures.survey c.is_steady.ensures in
-    let tells = tells_of (survey_slots v) (survey_pages v) c.loop-index.index c.is_steady.result (surveyed_page s) at (steady others) in (
-      (λ t. let h : false ≡ true = t in cc),
-      (λ u. absurd (not_unchanged (survey_slots v) v.pages.now c.loop-index.index c.is_steady.result c.loop-index-test.true
-          tells e u)),
-    )
+pub returns-then-is_some-2 : goal.returns-then-is_some-2
+returns-then-is_some-2 c = λ told. (
+  (λ t. let h : false ≡ true = t in cc),
+  (λ u. absurd (fault_not_unchanged (survey_slots c.args.survey.now) (survey_pages c.args.survey.now) c.args.faults.now told
+      c.loop-index.index c.index-faults-index.result
+      (slice_get_read c.args.faults.now _ c.loop-index.index c.index-faults-index.result refl c.loop-index-test.true c.index-faults-index.is)
+      (search rules) u)),
+)
 
 pub loop-index-preserved : goal.loop-index-preserved
-loop-index-preserved c =
-    let e : c.is_steady.result ≡ true = search rules in
-    let v = c.args.survey.now in
-    let s = c.surveyed_at.result in
-    let at = surveyed_here v c.loop-index.index s c.surveyed_at.ensures.survey c.surveyed_at.ensures.index in
-    let steady = subst (λ w. AreOthersIn w c.args.others.now → IsTrue c.is_steady.result ↔ IsSteadyIn w (surveyed_page s))
-    c.surveyed_at.ensures.survey c.is_steady.ensures in
-    record {
-      steady = λ others.
-          steady_more (survey_slots v) (survey_pages v) c.loop-index.index c.is_steady.result
-          (tells_of (survey_slots v) (survey_pages v) c.loop-index.index c.is_steady.result (surveyed_page s) at
-          (steady others)) e
-          (c.loop-index.invariant.steady others);
-    }
+loop-index-preserved c = record {
+  none = λ n fault lt at. elim (cases_lt n c.loop-index.index) as (λ _. fault.reason ≡ None) [
+    | inl low ↦ c.loop-index.invariant.none n fault low at
+    | inr high ↦
+        let last : n ≡ c.loop-index.index = omega arith in
+        let read = slice_get_read c.args.faults.now _ c.loop-index.index c.index-faults-index.result refl c.loop-index-test.true
+        c.index-faults-index.is in
+        let same : c.index-faults-index.result ≡ fault = let e = ap (slice_get c.args.faults.now) last in cc in
+        sym (ap (λ f. f.reason) same) ∙ is_none_of c.index-faults-index.result.reason (search rules)
+  ];
+}
 
 pub returns : goal.returns
-returns c = λ others. (
+returns c = λ told. (
   (λ t. record {
     clean = clean_all (survey_slots c.args.survey.now) _ c.bad_slot.result c.bad_slot.ensures (search rules);
-    steady = λ n p at. c.loop-index.invariant.steady others n p
-        (let w = slice_get_within (survey_pages c.args.survey.now) n p at in let l = length-map c.args.survey.now.pages.now page_of
-        in let f = c.loop-index-test.false in omega arith) at;
+    steady = none_is_steady (survey_slots c.args.survey.now) (survey_pages c.args.survey.now) c.args.faults.now told
+        (λ n fault at. c.loop-index.invariant.none n fault
+        (let w = slice_get_within c.args.faults.now n fault at in let f = c.loop-index-test.false in omega arith) at);
   }),
   (λ u. refl),
 )

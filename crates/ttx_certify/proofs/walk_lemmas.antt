@@ -1,0 +1,11 @@
+pub mod ChangedPlaces
+pub mod SentPlaces
+pub mod ChangedFacts
+pub mod BeforeFirstSlot
+pub mod GrowingLists
+pub mod OwnersBetween
+pub mod AfterOneSlot
+pub mod ReturningOwners
+pub mod FactsOfStream
+pub mod LateHeaders
+pub mod EndOfList
