@@ -2,12 +2,12 @@
 #![tactic(auto)]
 
 mod devices;
+mod dispatch;
 mod reports;
-mod running;
 
 use devices::hold_streams;
+use dispatch::run_order;
 use reports::{file_fault, memory_fault, status_of};
-use running::run_order;
 use std::process::ExitCode;
 use std::{env, io};
 use ttx_arguments::{Order, WordsFault, words};

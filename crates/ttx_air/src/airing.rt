@@ -10,12 +10,12 @@ ghost use Rattle.ttx_air.specs.Steps.{SoFar, SentMore};
 
 use crate::airtime::Airtime;
 use crate::candidate::Candidate;
-use crate::ending::entry_at;
 use crate::faults::AirFault;
+use crate::first_edition::opened;
 use crate::lines::note_end;
 use crate::log::Outputs;
 use crate::newsroom::Newsroom;
-use crate::opening::opened;
+use crate::period_end::entry_at;
 use crate::station::{Station, Terms, next_sent};
 use std::alloc::Global;
 use std::io::Write;

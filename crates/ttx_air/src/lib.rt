@@ -4,18 +4,18 @@
 mod airing;
 mod airtime;
 mod candidate;
-mod counting;
-mod ending;
 mod faults;
-mod judging;
+mod first_edition;
 pub mod laws;
 mod lines;
 mod listed;
 mod log;
+mod missing_pages;
 mod newsroom;
-mod opening;
+mod period_end;
 mod reasons;
 mod station;
+mod verdicts;
 
 pub use airing::air;
 pub use airtime::{Airtime, Receivers};

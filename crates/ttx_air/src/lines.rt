@@ -10,8 +10,8 @@ ghost use Rattle.ttx_air.specs.Newsrooms.{candidate_of};
 ghost use Rattle.ttx_air.specs.LogLines.{pages_text, seconds_text, deadline_text, field_text, edition_text, change_text, first_line, changed_line, kept_line, end_line};
 
 use crate::candidate::Candidate;
-use crate::counting;
 use crate::log::{put, put_number};
+use crate::missing_pages;
 use std::io::Write;
 use ttx_cycle::Counted;
 use ttx_playout::Edition;
@@ -118,8 +118,8 @@ pub(crate) fn note_first<L: Write>(
 fn put_change<L: Write>(log: &mut Counted<L>, started: u64, old: &Edition, new: &Edition)
     ensures { Adds started (written_of L.contents log.old) (written_of L.contents log.new) (change_text (edition_of old.now) (edition_of new.now)) }
 {
-    let new_pages = counting::lacking(old.service.pages(), new.service.pages());
-    let gone = counting::lacking(new.service.pages(), old.service.pages());
+    let new_pages = missing_pages::lacking(old.service.pages(), new.service.pages());
+    let gone = missing_pages::lacking(new.service.pages(), old.service.pages());
     put_pages(log, started, new_pages);
     put(log, started, b" new, ");
     put_number(log, started, gone);

@@ -8,8 +8,8 @@ ghost use Rattle.ttx_air.specs.Airings.{Written, written_of};
 ghost use Rattle.ttx_air.specs.Steps.{SoFar};
 
 use crate::airtime::Receivers;
-use crate::ending::period_ended;
 use crate::newsroom::Newsroom;
+use crate::period_end::period_ended;
 use std::alloc::Global;
 use std::io::Write;
 use ttx_cycle::Counted;

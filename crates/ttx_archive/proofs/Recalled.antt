@@ -8,8 +8,8 @@ use Rattle.ttx_logbook.specs.LogTexts as log
 use Rattle.ttx_logbook.specs.Views.{entry_of}
 use Rattle.ttx_logbook.specs.declared.values.Entry.{Entry}
 use Rattle.ttx_archive.specs.Archives.{ToldFields, RecordedFields, recorded_of, IsToldOf, IsFirst, RecallsBy, Recalls, IsAdded, IsLostIn}
-use Rattle.ttx_archive.specs.declared.recalling.RecallFault.{RecallFault}
-use Rattle.ttx_archive.specs.declared.recalling.RecallFault.TheVariants.{Lost, NoMemory}
+use Rattle.ttx_archive.specs.declared.recalled_log.RecallFault.{RecallFault}
+use Rattle.ttx_archive.specs.declared.recalled_log.RecallFault.TheVariants.{Lost, NoMemory}
 use Rattle.ttx_archive.specs.declared.recorded.Recorded.{Recorded}
 
 module _ (archive : List (List ℕ)) where

@@ -15,8 +15,8 @@ use Rattle.ttx_archive.specs.declared.filed.FiledText.{FiledText}
 use Rattle.ttx_archive.specs.declared.recorded.Told.{Told}
 use Rattle.ttx_archive.specs.declared.recorded.Told.TheVariants as told
 use Rattle.ttx_archive.specs.declared.recorded.Recorded.{Recorded}
-use Rattle.ttx_archive.specs.declared.recalling.RecallFault.{RecallFault}
-use Rattle.ttx_archive.specs.declared.recalling.RecallFault.TheVariants.{Lost, NoMemory}
+use Rattle.ttx_archive.specs.declared.recalled_log.RecallFault.{RecallFault}
+use Rattle.ttx_archive.specs.declared.recalled_log.RecallFault.TheVariants.{Lost, NoMemory}
 
 abbrev pub text_of : FiledText → List ℕ
 text_of filed = filed.text.items

@@ -1,12 +1,12 @@
 //! Texts by their SHA-256, and what a log records, with the texts that it names.
 #![tactic(auto)]
 
+mod digests;
 mod filed;
-mod finding;
-mod recalling;
+mod recalled_log;
 mod recorded;
 
+pub use digests::find_text;
 pub use filed::FiledText;
-pub use finding::find_text;
-pub use recalling::{RecallFault, recall};
+pub use recalled_log::{RecallFault, recall};
 pub use recorded::{Recorded, Told};

@@ -3,6 +3,7 @@
 
 mod airings;
 mod arguments;
+mod command_line;
 mod command_names;
 mod commands;
 mod conflicts;
@@ -12,12 +13,12 @@ mod laws;
 mod moments;
 pub mod orders;
 mod page_names;
-mod parsing;
 mod ranges;
 mod seconds;
 mod timings;
 mod values;
 
+pub use command_line::words;
 pub use conflicts::{Conflict, conflict_line};
 pub use laws::{
     air_words, certify_words, check_words, compose_words, explain_words, find_words, monitor_words,
@@ -30,5 +31,4 @@ pub use orders::{
     Order, PlanOrder, ReceiverKind, RefuteOrder, ReplayForm, ReplayOrder, ReportOrder, SendOrder,
     Sending, SpliceOrder, Start, Timing, Tuning, WaitOrder, WordsFault,
 };
-pub use parsing::words;
 pub use ranges::{Fields, Lines, Offset, Repeat};

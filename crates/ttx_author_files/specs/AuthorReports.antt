@@ -12,7 +12,7 @@ use Rattle.ttx_desk.specs.Words.{IsFaultWords}
 use Rattle.ttx_desk.specs.declared.mistakes.Mistake.{Mistake}
 use Rattle.ttx_mistakes.specs.LongLines.{Placed}
 use Rattle.ttx_mistakes.specs.LongReports.{IsReportOf, pages_in}
-use Rattle.ttx_mistakes.specs.declared.checking.Style.{Style}
+use Rattle.ttx_mistakes.specs.declared.check_report.Style.{Style}
 use Rattle.ttx_author_files.specs.AuthorNotes.{author_placed}
 
 pub record IsPlacedMistake (text : List ℕ) (author : Members) (mistake : Mistake) (p : Placed) : Type 0 where

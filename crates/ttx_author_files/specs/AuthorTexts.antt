@@ -18,8 +18,8 @@ use Rattle.ttx_files.specs.declared.faults.FilesFault.TheVariants.{Read, TooLong
 use Rattle.ttx_files.specs.declared.faults.FilesFault.TheVariants as files
 use Rattle.ttx_files.specs.declared.faults.TextFile.TheVariants as text
 use Rattle.ttx_desk.specs.Composing.{author_in, Composes}
-use Rattle.ttx_desk.specs.declared.composing.Composed.{Composed}
-use Rattle.ttx_desk.specs.declared.composing.ComposeFault.{ComposeFault}
+use Rattle.ttx_desk.specs.declared.composition.Composed.{Composed}
+use Rattle.ttx_desk.specs.declared.composition.ComposeFault.{ComposeFault}
 use Rattle.ttx_author_files.specs.Composing.{IsRefusal}
 use Rattle.ttx_author_files.specs.declared.author_texts.Standing.{Standing}
 use Rattle.ttx_author_files.specs.declared.author_texts.Standing.TheVariants.{Text, Lines}

@@ -8,7 +8,7 @@ use Rattle.ttx_files.specs.declared.faults.FilesFault.{FilesFault}
 use Rattle.ttx_files.specs.declared.faults.FilesFault.TheVariants.{Read, TooLong, Write, NoMemory}
 use Rattle.ttx_files.specs.declared.faults.TextFile.TheVariants as text
 use Rattle.ttx_mistakes.specs.Checking as service
-use Rattle.ttx_mistakes.specs.declared.checking.Style.{Style}
+use Rattle.ttx_mistakes.specs.declared.check_report.Style.{Style}
 use Rattle.ttx_author_files.specs.AuthorReports.{IsAuthorReport}
 use Rattle.ttx_author_files.specs.AuthorTexts.{is_author_text}
 

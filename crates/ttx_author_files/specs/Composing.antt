@@ -22,9 +22,9 @@ use Rattle.toml.specs.Data.{Members}
 use Rattle.ttx_author_files.specs.AuthorReports.{IsReportFor}
 use Rattle.ttx_desk.specs.Composing.{author_in, BeginsWith, Composes, first_comment}
 use Rattle.ttx_desk.specs.MistakeLines.{IsMistakeReport, IsTomlReport}
-use Rattle.ttx_desk.specs.declared.composing.Composed.{Composed}
-use Rattle.ttx_desk.specs.declared.composing.ComposeFault.{ComposeFault}
-use Rattle.ttx_desk.specs.declared.composing.ComposeFault.TheVariants as fault
+use Rattle.ttx_desk.specs.declared.composition.Composed.{Composed}
+use Rattle.ttx_desk.specs.declared.composition.ComposeFault.{ComposeFault}
+use Rattle.ttx_desk.specs.declared.composition.ComposeFault.TheVariants as fault
 
 abbrev pub composed_line : ℕ → List ℕ
 composed_line count = codes "composed " ++ decimal count ++ codes " pages" ++ 10 ∷ []

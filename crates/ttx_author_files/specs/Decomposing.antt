@@ -17,8 +17,8 @@ use Rattle.ttx_files.specs.declared.faults.FilesFault.TheVariants.{Service, Read
 use Rattle.ttx_files.specs.declared.faults.TextFile.TheVariants as text
 use Rattle.ttx_files.specs.declared.told.Filed.{Filed}
 use Rattle.ttx_desk.specs.Decomposing.{Decomposes}
-use Rattle.ttx_desk.specs.declared.decomposing.Decomposed.{Decomposed}
-use Rattle.ttx_desk.specs.declared.decomposing.DecomposeFault.TheVariants as fault
+use Rattle.ttx_desk.specs.declared.decomposition.Decomposed.{Decomposed}
+use Rattle.ttx_desk.specs.declared.decomposition.DecomposeFault.TheVariants as fault
 
 abbrev pub decomposed_line : ℕ → List ℕ
 decomposed_line count = codes "decomposed " ++ decimal count ++ codes " pages" ++ 10 ∷ []

@@ -10,7 +10,7 @@ ghost use Rattle.ttx_files.specs.Devices.{AtService, input, failed_at, IsFirstFa
 ghost use Rattle.ttx_author_files.specs.AuthorTexts as rule;
 ghost use Rattle.ttx_author_files.specs.Composing.{IsNoMemory};
 
-use crate::composing::refusal;
+use crate::service_text::refusal;
 use std::alloc::{AllocError, Global};
 use std::io::Read;
 use toml::{Table, Value};

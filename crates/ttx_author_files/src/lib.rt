@@ -3,14 +3,14 @@
 
 mod author_notes;
 mod author_reports;
+mod author_text;
 mod author_texts;
-mod checking;
-mod composing;
-mod decomposing;
+mod mistakes;
+mod service_text;
 
 pub use author_reports::told_of_author;
+pub use author_text::decompose_file;
 pub use author_texts::{Standing, is_author_text, read_standing};
-pub use checking::check_file;
-pub use composing::compose_file;
-pub use decomposing::decompose_file;
+pub use mistakes::check_file;
+pub use service_text::compose_file;
 pub use ttx_mistakes::Style;

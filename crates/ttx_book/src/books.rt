@@ -4,9 +4,9 @@ ghost use Rattle.std.specs.Prelude.{◌≡◌, ◌++◌, IfOk, OnOk, codes, leng
 ghost use Rattle.ttx_book.specs.Books.{book_start, book_style, index_start, script, book_end, head_of, book_of, book_text};
 ghost use Rattle.ttx_picture.specs.Html.{sheet};
 
-use crate::hearing::leaf_ids;
 use crate::leaves::{push_index, push_leaves};
-use crate::placing::{Index, index_of};
+use crate::packet_index::{Index, index_of};
+use crate::page_views::leaf_ids;
 use std::alloc::{AllocError, Global};
 use ttx_header::PageId;
 use ttx_pages::keys::owners;

@@ -5,8 +5,8 @@ ghost use Rattle.ttx_header.specs.Headers.{header_fields_of};
 ghost use Rattle.ttx_book.specs.Hearing.{leaf_id};
 ghost use Rattle.ttx_book.specs.Books.{name_of, title_char, title_text, title_of, entry_start, entry_end, index_entry, entry_or_none, index_html, full_number, anchor, section_tag, heading, leaf_end, leaf_html, leaves_html};
 
-use crate::hearing::{leaf_id, page_view};
-use crate::placing::Index;
+use crate::packet_index::Index;
+use crate::page_views::{leaf_id, page_view};
 use std::alloc::AllocError;
 use ttx_charset::glyph;
 use ttx_digits::{digit, push_byte, push_id};

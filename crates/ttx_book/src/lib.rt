@@ -1,11 +1,11 @@
 //! All pages of a cycle as one HTML file.
 #![tactic(auto)]
 
-mod binding;
 mod books;
-mod hearing;
+mod html_book;
 mod leaves;
-mod placing;
+mod packet_index;
+mod page_views;
 
-pub use binding::book;
 pub use books::book_text;
+pub use html_book::book;

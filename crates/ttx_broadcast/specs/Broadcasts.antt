@@ -24,7 +24,7 @@ use Rattle.ttx_press.specs.declared.house.House.{House}
 use Rattle.ttx_playout.specs.declared.faults.StartFault.TheVariants as start
 use Rattle.ttx_newsroom.specs.declared.press.PressFault.{PressFault}
 use Rattle.ttx_newsroom.specs.declared.press.PressFault.TheVariants as press
-use Rattle.ttx_press.specs.declared.opening.Opening.{Opening}
+use Rattle.ttx_press.specs.declared.opened_air.Opening.{Opening}
 use Rattle.ttx_press.specs.Openings.{IsOpening, IsNoOpening}
 use Rattle.ttx_press.specs.Presses.{text_gives}
 use Rattle.ttx_broadcast.specs.Settings.{settings_line}

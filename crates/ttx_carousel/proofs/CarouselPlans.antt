@@ -15,7 +15,7 @@ use Rattle.ttx_plan.specs.Carries.{blocks_of, block_at}
 use Rattle.ttx_plan.specs.Order.{picked, some_block, sent_in_order, CarriesInOrder}
 use Rattle.ttx_plan.specs.declared.asked.Receivers.{Receivers}
 use Rattle.ttx_promise.specs.Promises.{Answers, HasPlan, IsRaised}
-use Rattle.ttx_promise.specs.declared.planning.Viewers.{Viewers}
+use Rattle.ttx_promise.specs.declared.promised_plan.Viewers.{Viewers}
 use Rattle.ttx_source.specs.Promises.{PromiseFields}
 use Rattle.ttx_source.specs.PromiseViews.{promise_view}
 use Rattle.ttx_source.specs.declared.promises.Promise.{Promise as PromiseValue}

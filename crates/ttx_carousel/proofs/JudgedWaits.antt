@@ -15,12 +15,12 @@ use Rattle.ttx_promise.specs.declared.faults.LatePage.{LatePage}
 use Rattle.ttx_promise.specs.declared.waits_and_promises.PromisedWait.{PromisedWait}
 use Rattle.ttx_source.specs.Promises.{PromiseFields}
 use Rattle.ttx_source.specs.Services.{ServiceFields, pages_of}
-use Rattle.ttx_witness.specs.waiting.PageWaits.{AreWaits, CanAccept, IsLeast, fields_told}
-use Rattle.ttx_witness.specs.declared.waiting.wait.PageWait.{PageWait}
-use Rattle.ttx_witness.specs.declared.waiting.wait.Wait.{Wait}
-use Rattle.ttx_witness.specs.declared.waiting.wait.Wait.TheVariants.{Fields, Faulty, Unsure}
+use Rattle.ttx_witness.specs.waits.PageWaits.{AreWaits, CanAccept, IsLeast, fields_told}
+use Rattle.ttx_witness.specs.declared.waits.wait.PageWait.{PageWait}
+use Rattle.ttx_witness.specs.declared.waits.wait.Wait.{Wait}
+use Rattle.ttx_witness.specs.declared.waits.wait.Wait.TheVariants.{Fields, Faulty, Unsure}
 use Rattle.ttx_carousel.specs.Carousels.{IsSeen, AreSeen}
-use Rattle.ttx_promise.specs.declared.planning.Viewers.{Viewers}
+use Rattle.ttx_promise.specs.declared.promised_plan.Viewers.{Viewers}
 use Rattle.ttx_carousel.specs.Judging.{IsUnseen, IsLateFor, IsKeptFor, IsFirstLate, IsShownOrMissed, IsShownLate, IsJudged}
 use Rattle.ttx_carousel.specs.declared.faults.Missed.{Missed}
 use Rattle.ttx_carousel.specs.declared.faults.Missed.TheVariants.{Unseen, Late, NeverShown}

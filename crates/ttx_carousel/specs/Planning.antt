@@ -19,7 +19,7 @@ use Rattle.ttx_plan.specs.Order.{CarriesInOrder, sent_in_order}
 use Rattle.ttx_plan.specs.Spread.{IsSpread}
 use Rattle.ttx_plan.specs.declared.asked.Receivers.{Receivers}
 use Rattle.ttx_promise.specs.Promises.{Answers, HasPlan, IsRaised}
-use Rattle.ttx_promise.specs.declared.planning.Viewers.{Viewers}
+use Rattle.ttx_promise.specs.declared.promised_plan.Viewers.{Viewers}
 use Rattle.ttx_source.specs.Promises.{PromiseFields}
 use Rattle.ttx_source.specs.Services.{ServiceFields, pages_of}
 use Rattle.ttx_carousel.specs.Carousels.{AreStaysKept, KeepsAll}
@@ -29,9 +29,9 @@ use Rattle.ttx_carousel.specs.Rounds.{AreApart}
 use Rattle.ttx_carousel.specs.declared.faults.Missed.{Missed as MissedRest}
 use Rattle.ttx_carousel.specs.declared.faults.ShortStay.{ShortStay}
 use Rattle.ttx_carousel.specs.declared.faults.StayFault.{StayFault}
-use Rattle.ttx_carousel.specs.declared.planning.Attempt.{Attempt}
+use Rattle.ttx_carousel.specs.declared.plans.Attempt.{Attempt}
 use Rattle.ttx_carousel.specs.declared.carousel.Carousel.{Carousel}
-use Rattle.ttx_carousel.specs.declared.planning.Attempt.TheVariants as attempt
+use Rattle.ttx_carousel.specs.declared.plans.Attempt.TheVariants as attempt
 use Rattle.ttx_carousel.specs.declared.faults.StayFault.TheVariants.{Promise, TooLong, Short, Missed, NoMemory}
 
 -- the pages in the order of a carousel, each page at its spread place, and those of one number apart

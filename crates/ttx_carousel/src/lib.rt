@@ -3,12 +3,12 @@
 
 mod carousel;
 mod faults;
-mod judging;
+mod kept_promises;
 mod layout;
 mod lines;
-mod planning;
+mod plans;
 
 pub use faults::{Missed, ShortStay, StayFault};
-pub use judging::{judge, short_stays};
+pub use kept_promises::{judge, short_stays};
 pub use lines::{missed_line, stay_lines};
-pub use planning::plan_stays;
+pub use plans::plan_stays;

@@ -8,7 +8,7 @@ use Rattle.ttx_page.specs.declared.class.Class.TheVariants.{Clearing}
 use Rattle.ttx_page.specs.declared.item.Item.{Item}
 use Rattle.ttx_page.specs.declared.item.Item.TheVariants.{Head as TheHead, Row as TheRow, Links as TheLinks}
 use Rattle.ttx_page.specs.Streams.{run_length}
-use Rattle.ttx_witness.specs.declared.runs.confirming.Progress.{Progress}
+use Rattle.ttx_witness.specs.declared.runs.confirmation.Progress.{Progress}
 use Rattle.ttx_witness.specs.declared.faults.reason.Reason.{Reason}
 use Rattle.ttx_witness.specs.declared.faults.reason.Reason.TheVariants.{BadSlot, NoHeader, OtherSubpage, Erased, HeadDiffers, RowDiffers, LinksDiffer}
 use Rattle.ttx_witness.specs.declared.faults.reason.Reason.TheVariants.{NoWitness, WitnessBad, Late, Unsteady, LateBlank}

@@ -20,7 +20,7 @@ use Rattle.ttx_witness.specs.Coverage.{Certificate, IsCovered, IsLeftOut}
 use Rattle.ttx_witness.specs.laws.JudgingLaws.{IsHeaderAnswer}
 use Rattle.ttx_certify.specs.walks.Passing.{IsEnded, ended_pages, ended_certificate}
 use Rattle.ttx_witness.specs.faults.Reasons.{HasNoWitness, WitnessBadAt, LateAt, LateBlankAt}
-use Rattle.ttx_certify.specs.declared.walks.ending.EndedWalk.{EndedWalk}
+use Rattle.ttx_certify.specs.declared.walks.page_results.EndedWalk.{EndedWalk}
 use Rattle.ttx_witness.specs.declared.faults.reason.Reason.{Reason}
 use Rattle.ttx_witness.specs.declared.faults.reason.Reason.TheVariants.{BadSlot, NoHeader, OtherSubpage, Erased, HeadDiffers, RowDiffers, LinksDiffer}
 use Rattle.ttx_witness.specs.declared.faults.reason.Reason.TheVariants.{NoWitness, WitnessBad, Late, Unsteady, LateBlank}

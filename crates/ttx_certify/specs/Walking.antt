@@ -10,8 +10,8 @@ use Rattle.ttx_witness.specs.declared.faults.reason.Reason.TheVariants.{Unsteady
 use Rattle.ttx_certify.specs.Verdicts.{IsVerdict}
 use Rattle.ttx_certify.specs.declared.verdict.Verdict.{Verdict}
 use Rattle.ttx_certify.specs.declared.verdict.Verdict.TheVariants.{No}
-use Rattle.ttx_certify.specs.declared.walks.passing.Walk.{Walk}
-use Rattle.ttx_certify.specs.declared.walks.passing.Second.{Second}
+use Rattle.ttx_certify.specs.declared.walks.passes.Walk.{Walk}
+use Rattle.ttx_certify.specs.declared.walks.passes.Second.{Second}
 
 abbrev pub TookFirst : Walk → Walk → List (List ℕ) → Type 0
 TookFirst old new x =

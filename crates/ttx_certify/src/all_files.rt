@@ -3,7 +3,7 @@
 ghost use Rattle.ttx_certify.specs.AllLines.{IsJudgedAll};
 
 use crate::all_lines::all_text;
-use crate::services::certify_all_of_service;
+use crate::certified_services::certify_all_of_service;
 use crate::verdict::Verdict;
 use std::alloc::Global;
 use ttx_files::{Inputs, Judge, Told};

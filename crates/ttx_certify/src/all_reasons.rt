@@ -5,9 +5,9 @@ ghost use Rattle.ttx_certify.specs.walks.Passing.{IsEnded, ended_pages, ended_ce
 ghost use Rattle.ttx_certify.specs.AllReasons.{AreReasons};
 ghost use Rattle.ttx_certify.specs.Verdicts.{IsVerdict};
 
-use crate::judging::{fault_at, judge};
 use crate::verdict::Verdict;
-use crate::walks::ending::EndedWalk;
+use crate::verdicts::{fault_at, judge};
+use crate::walks::page_results::EndedWalk;
 use std::alloc::Global;
 use ttx_witness::{NoMemory, Reason};
 

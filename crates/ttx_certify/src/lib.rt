@@ -9,33 +9,33 @@
 //! progress, 232 bytes, 11.1 MB for 2,000 pages of 24 items.
 #![tactic(auto)]
 
+mod acceptance;
 mod all_files;
 mod all_lines;
 mod all_reasons;
-mod certifying;
-mod files;
+mod certified_files;
+mod certified_services;
 mod item_reasons;
-mod judging;
 pub mod laws;
 mod page_reasons;
-mod passes;
-mod receiving;
-mod services;
+mod reception;
 mod takers;
+mod two_readings;
 mod verdict;
 pub mod verdict_laws;
 mod verdict_lines;
+mod verdicts;
 mod walks;
 
+pub use acceptance::{certify, certify_all};
 pub use all_files::All;
 pub use all_lines::{all_text, reasons_in};
 pub use all_reasons::{AllReasons, PageReason};
-pub use certifying::{certify, certify_all};
-pub use files::{AtOnce, certify_files};
-pub use passes::{certify_passes, walk_files};
-pub use receiving::receive;
-pub use services::{certify_all_of_service, certify_service, find_service};
+pub use certified_files::{AtOnce, certify_files};
+pub use certified_services::{certify_all_of_service, certify_service, find_service};
+pub use reception::receive;
 pub use ttx_files::{FilesFault, TextFile};
+pub use two_readings::{certify_passes, walk_files};
 pub use verdict::Verdict;
 pub use verdict_lines::{push_reason, push_yes, verdict_line};
-pub use walks::passing::{Second, Walk, WalkFault};
+pub use walks::passes::{Second, Walk, WalkFault};

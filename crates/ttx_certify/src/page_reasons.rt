@@ -11,7 +11,7 @@ ghost use Rattle.ttx_certify.specs.walks.Passing.{IsEnded, ended_pages, ended_ce
 ghost use Rattle.ttx_certify.specs.ItemReasons.{reason_number, told_first, judged_page, judged_certificate, IsReasonAt, IsReasonBelow, IsReadyAt};
 
 use crate::item_reasons::JudgedPage;
-use crate::walks::ending::EndedWalk;
+use crate::walks::page_results::EndedWalk;
 use ttx_page::Class;
 use ttx_witness::{Reason, item_of};
 

@@ -3,7 +3,7 @@
 ghost use Rattle.std.specs.Prelude.{refl};
 ghost use Rattle.ttx_certify.specs.Walking.{TookFirst, TookSecond};
 
-use crate::walks::passing::{Second, Walk};
+use crate::walks::passes::{Second, Walk};
 use ttx_files::SlotTaker;
 
 impl SlotTaker for Walk<'_> {

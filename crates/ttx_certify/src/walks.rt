@@ -2,14 +2,14 @@
 //! headers before slot 0, the second finds what the cycle sends of the pages. The verdict does not depend on the first pass being right: if
 //! the second pass does not bear it out, the verdict is `Unsteady`.
 
-pub mod beginning;
 pub mod earlier_owners;
-pub mod ending;
-pub mod finishing;
+pub mod end;
 pub mod numbered_slot;
 pub mod other_headers;
 pub mod page_facts;
-pub mod passing;
+pub mod page_results;
+pub mod passes;
 pub mod progress;
 pub mod returning_owners;
 pub mod sent_slots;
+pub mod start;

@@ -3,16 +3,16 @@
 #![tactic(auto)]
 
 mod editions;
-mod files;
-mod judging;
+mod late_verdict;
 pub mod laws;
 mod lines;
 mod on_air;
+mod spliced_files;
 mod verdict;
 
 pub use editions::open_between;
-pub use files::splice_files_late;
-pub use judging::late_splice;
+pub use late_verdict::late_splice;
 pub use lines::late_splice_line;
 pub use on_air::judge_whole;
+pub use spliced_files::splice_files_late;
 pub use verdict::{LateSplice, WholeChange};

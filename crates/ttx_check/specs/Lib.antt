@@ -1,5 +1,4 @@
 pub mod Checking
-pub mod Counting
 pub mod Entries
 pub mod PageWarnings
 pub mod PartViews

@@ -2,10 +2,10 @@
 --
 --   initial_link, initial_warnings          the initial page of packet 8/30
 --   is_most, serial_warnings        a magazine with more than half of the packets, in serial transmission
---   times_among             how often a page comes directly behind another
 --   warnings                all of them
-use Rattle.std.specs.Prelude.{ℕ, zero, suc, ◌*◌, Bool, ◌&&◌, ◌==◌, nat_lt, count_by, if◌then◌else◌, List, [], ◌++◌, Option, Some, None}
+use Rattle.std.specs.Prelude.{ℕ, zero, suc, ◌*◌, Bool, ◌&&◌, ◌==◌, nat_lt, if◌then◌else◌, List, [], ◌++◌, Option, Some, None}
 use Rattle.ttx_header.specs.Ids.{Id}
+use Rattle.ttx_tallies.specs.Tallies.{times_among}
 use Rattle.ttx_info.specs.Infos.{InfoFields}
 use Rattle.ttx_source.specs.Services.{ServiceFields, pages_of}
 use Rattle.ttx_check.specs.Entries.{queue_entries, traffic, all_traffic}
@@ -33,10 +33,6 @@ most_to entries (suc n) = most_to entries n ++ only_if (is_most entries (suc n))
 
 abbrev pub serial_warnings : Bool → List Entry → List Warning
 serial_warnings serial entries = if serial then most_to entries 8 else []
-
--- how often a place occurs in a list
-abbrev pub times_among : List ℕ → ℕ → ℕ
-times_among places place = count_by (λ k. k == place) places
 
 -- all of them, from how often a page is sent directly behind another subpage, and directly behind itself
 abbrev pub warnings_by : ServiceFields → List Entry → (ℕ → ℕ) → (ℕ → ℕ) → List Warning

@@ -2,7 +2,7 @@
 #![tactic(auto)]
 
 pub mod acceptance;
-mod checking;
+mod check_report;
 mod entries;
 mod links;
 mod page_warnings;
@@ -15,14 +15,13 @@ mod row_signs;
 mod rows;
 mod service_warnings;
 pub mod spots;
-mod tallies;
 mod texts;
 mod traffic;
 pub mod unknown_keys;
 pub mod warning;
 pub mod warning_lines;
 
-pub use checking::check;
+pub use check_report::check;
 pub use readings::{Reading, reading_of};
 pub use reports::{Checked, report};
 pub use service_warnings::warnings;

@@ -3,19 +3,19 @@
 ghost use Rattle.std.specs.Prelude.{◌≡◌, ◌++◌, ◌||◌, OnOk, map};
 ghost use Rattle.std.specs.List.{list_any};
 ghost use Rattle.ttx_page.specs.Views.{page_of};
-ghost use Rattle.ttx_check.specs.Counting.{times_in};
+ghost use Rattle.ttx_tallies.specs.Tallies.{times_in};
 ghost use Rattle.ttx_check.specs.PageWarnings.{has_box, lacks_box, is_asked_for, has_letter_number, has_letter_subcode, key_warnings, own_warnings};
 ghost use Rattle.ttx_check.specs.PageWarnings.{order_warnings, page_warnings, pages_from};
 
 use crate::entries::Entry;
 use crate::links::push_links;
 use crate::rows::{push_if, push_rows, push_signs};
-use crate::tallies::count_of;
 use crate::warning::Warning;
 use std::alloc::AllocError;
 use std::collections::BTreeMap;
 use ttx_header::PageId;
 use ttx_page::{Item, Page, RowNumber, is_blank};
+use ttx_tallies::count_of;
 
 // Two of these codes in succession start a box.
 const START_BOX: u8 = 0x0b;

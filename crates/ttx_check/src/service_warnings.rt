@@ -1,7 +1,7 @@
 //! The warnings about a service.
 
 ghost use Rattle.std.specs.Prelude.{◌≡◌, ◌++◌, ℕ, IfOk, OnOk};
-ghost use Rattle.ttx_check.specs.Counting.{times_in};
+ghost use Rattle.ttx_tallies.specs.Tallies.{times_among, times_in};
 ghost use Rattle.ttx_check.specs.Queues.{behind_subpages, behind_copies};
 ghost use Rattle.ttx_check.specs.Warnings as rule;
 
@@ -10,11 +10,11 @@ use crate::links::is_dead;
 use crate::page_warnings::{Order, push_pages};
 use crate::queues::{behind_copies, behind_subpages};
 use crate::rows::push_if;
-use crate::tallies::tally;
 use crate::traffic::push_most;
 use crate::warning::Warning;
 use std::alloc::{AllocError, Global};
 use ttx_source::Service;
+use ttx_tallies::tally;
 
 // Adds the warning about the initial page of packet 8/30.
 fn push_initial(
@@ -33,8 +33,8 @@ fn push_initial(
 
 // How often each page is sent directly behind another subpage, and directly behind itself.
 fn order_of(alloc: Global, serial: bool, entries: &[Entry]) -> Result<Order, AllocError>
-    ensures subpages { IfOk result (λ order. (q : ℕ) → times_in order.subpages q ≡ rule.times_among (behind_subpages entries.now) q) }
-    ensures copies { IfOk result (λ order. (q : ℕ) → times_in order.copies q ≡ rule.times_among (behind_copies serial entries.now) q) }
+    ensures subpages { IfOk result (λ order. (q : ℕ) → times_in order.subpages q ≡ times_among (behind_subpages entries.now) q) }
+    ensures copies { IfOk result (λ order. (q : ℕ) → times_in order.copies q ≡ times_among (behind_copies serial entries.now) q) }
 {
     let subpages = behind_subpages(alloc, entries)?;
     let copies = behind_copies(alloc, serial, entries)?;

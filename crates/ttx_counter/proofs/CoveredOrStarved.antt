@@ -14,7 +14,7 @@ use Rattle.ttx_page.specs.declared.item.Item.TheVariants.{Head as TheHead, Row a
 use Rattle.ttx_page.specs.Streams.{Stream, repeated, turned, run_length, IsOwned, IsRun, HasSureRun, EndsBelow, IsSent}
 use Rattle.ttx_page.specs.Laws.{EachSlotTurns, StreamsMove, CyclesRepeat, OwnersAreUnique, OwnersDontFall, RunsRise}
 use Rattle.ttx_witness.specs.runs.Confirming.{Rising, late_after}
-use Rattle.ttx_witness.specs.declared.runs.confirming.Progress.{Progress}
+use Rattle.ttx_witness.specs.declared.runs.confirmation.Progress.{Progress}
 use Rattle.ttx_witness.specs.runs.Repeating.{IsLate, IsFirst, next_start}
 use Rattle.ttx_witness.specs.Coverage.{Certificate, limit, IsSureStart, IsCovered}
 use Rattle.ttx_witness.specs.laws.CycleLaws.{CoverageIsDecided, FirstsAreFound, progress_of}

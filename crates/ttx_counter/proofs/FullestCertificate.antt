@@ -10,7 +10,7 @@ use Rattle.ttx_code.proofs.Choices.{either}
 use Rattle.ttx_page.specs.Streams.{run_length}
 use Rattle.ttx_witness.specs.runs.Confirming.{Rising}
 use Rattle.ttx_witness.specs.laws.CycleLaws.{SureStartsAreFound}
-use Rattle.ttx_witness.specs.finding.Finding.{starts_of}
+use Rattle.ttx_witness.specs.search.Finding.{starts_of}
 use Rattle.ttx_counter.specs.Starving.{sorted_below}
 use Rattle.ttx_counter.specs.Completeness.{FullestNamesAll}
 use Rattle.ttx_counter.proofs.CoveredOrStarved.{run_some}

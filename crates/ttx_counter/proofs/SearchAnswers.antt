@@ -20,7 +20,7 @@ use Rattle.ttx_page.specs.declared.class.Class.TheVariants.{Any}
 use Rattle.ttx_page.specs.Views.{page_of}
 use Rattle.ttx_certify.specs.Laws.{ArePages}
 use Rattle.ttx_witness.specs.laws.CycleLaws.{FurtherStartsCover}
-use Rattle.ttx_witness.specs.finding.Finding.{IsSentUnchanged, CanBeAccepted}
+use Rattle.ttx_witness.specs.search.Finding.{IsSentUnchanged, CanBeAccepted}
 use Rattle.ttx_counter.specs.Laws.{RefutedIsNotAccepted}
 use Rattle.ttx_witness.specs.faults.Faults.{IsPageFault, SteadyHasNoFault}
 use Rattle.ttx_witness.specs.declared.faults.reason.Reason.{Reason}

@@ -10,7 +10,7 @@ use Rattle.ttx_page.specs.declared.item.Item.{Item}
 use Rattle.ttx_page.specs.Streams.{repeated, turned, run_length, IsOwned}
 use Rattle.ttx_cycle.specs.Files.{IsCycle}
 use Rattle.ttx_witness.specs.runs.Confirming.{Rising, late_after, after_runs, not_begun}
-use Rattle.ttx_witness.specs.declared.runs.confirming.Progress.{Progress}
+use Rattle.ttx_witness.specs.declared.runs.confirmation.Progress.{Progress}
 use Rattle.ttx_witness.specs.runs.Transmissions.{runs, slot_of}
 use Rattle.ttx_witness.specs.declared.runs.transmissions.Transmission.{Transmission}
 use Rattle.ttx_witness.specs.runs.Repeating.{Lists}

@@ -25,7 +25,7 @@ use Rattle.ttx_cycle.specs.Files.{IsCycle}
 use Rattle.ttx_witness.specs.runs.Confirming.{Rising, late_after}
 use Rattle.ttx_witness.specs.laws.CycleLaws.{progress_of}
 use Rattle.ttx_witness.specs.Coverage.{Certificate, IsCertificate, limit, IsCovered}
-use Rattle.ttx_witness.specs.finding.Finding.{IsSentUnchanged, CanBeAccepted, IsLeastDeadline}
+use Rattle.ttx_witness.specs.search.Finding.{IsSentUnchanged, CanBeAccepted, IsLeastDeadline}
 use Rattle.ttx_certify.specs.Seen.{HasView, Seen}
 use Rattle.ttx_certify.specs.Laws.{ArePages}
 use Rattle.ttx_certify.specs.Verdicts.{IsClean}

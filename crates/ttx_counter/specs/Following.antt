@@ -13,7 +13,7 @@ use Rattle.ttx_receiver.specs.Tuning.{Script, chooses, script_step, script_at, t
 use Rattle.ttx_counter.specs.Counters.{CounterRun, IsCounterRun, selection_for}
 use Rattle.ttx_counter.specs.Hearing.{IsHeard}
 use Rattle.ttx_counter.specs.Replaying.{IsLeft, IsReplayed}
-pub use Rattle.ttx_counter.specs.declared.following.Taken.{Taken}
+pub use Rattle.ttx_counter.specs.declared.taken_choices.Taken.{Taken}
 
 abbrev pub takes : Script → List ℕ → Bool
 takes r slot = next_choice (chooses r.tuned slot) r.choices

@@ -2,35 +2,35 @@
 //! seen.
 #![tactic(auto)]
 
-mod checking;
+mod checks;
 mod claim;
 pub mod completeness;
 mod counter;
 mod counter_faults;
-mod counter_reading;
-mod counter_writing;
-mod following;
 mod former;
-mod hearing;
 mod keys;
 pub mod laws;
-mod listening;
 mod magazines;
 mod numbers;
 mod plain;
-mod plain_refuting;
+mod plain_counters;
+mod reader;
 mod refutation;
-mod replaying;
+mod replay;
 mod rule;
-mod starting;
-mod starving;
+mod run_slots;
+mod scripted_receiver;
+mod starvation;
+mod starvation_start;
 mod streaks;
+mod taken_choices;
+mod writer;
 
-pub use checking::check_counter;
+pub use checks::check_counter;
 pub use counter::{Counter, Hit};
 pub use counter_faults::CounterFault;
-pub use counter_reading::read_counter;
-pub use counter_writing::write_counter;
-pub use following::{Followed, Taken, follow};
+pub use reader::read_counter;
 pub use refutation::refute;
-pub use replaying::replay;
+pub use replay::replay;
+pub use taken_choices::{Followed, Taken, follow};
+pub use writer::write_counter;

@@ -13,9 +13,9 @@ ghost use Rattle.ttx_cycle.specs.Cycles.{slots_of};
 ghost use Rattle.ttx_render.specs.View.{view_of};
 ghost use Rattle.ttx_counter.specs.Sources.{plain_from, is_under, takes_from, TellsWrong};
 
-use crate::checking::is_unlike;
-use crate::listening::place;
+use crate::checks::is_unlike;
 use crate::magazines::{Sorted, hear_at, magazine_at, selected};
+use crate::run_slots::place;
 use ttx_header::read_header;
 use ttx_links::Target;
 use ttx_packet::slots::{Slot, slot_of};

@@ -8,9 +8,9 @@ ghost use Rattle.ttx_counter.specs.Hearing.{IsHeard};
 ghost use Rattle.ttx_counter.specs.Keys.{key_at, AreHitOnce, IsKey};
 ghost use Rattle.ttx_counter.specs.Rule.{KeepsRule};
 
-use crate::hearing::{Run, hear};
 use crate::keys::{SlotKeys, end_of, hit_slot};
-use crate::listening::{is_owned, place, row_sent};
+use crate::run_slots::{is_owned, place, row_sent};
+use crate::scripted_receiver::{Run, hear};
 use crate::streaks::{no_streaks, note};
 use std::alloc::Global;
 use ttx_header::PageId;

@@ -5,7 +5,7 @@ ghost use Rattle.std.specs.Prelude.{◌≤◌};
 use crate::arrays::is_slot;
 use crate::counted::Counted;
 use crate::faults::CycleFault;
-use crate::filling::{fill, is_at_end};
+use crate::slot_bytes::{fill, is_at_end};
 use std::io::Read;
 
 /// Reads a packet file slot by slot and keeps no slot. Allocates no memory.

@@ -10,7 +10,7 @@ use Rattle.ttx_page.specs.Streams.{Stream, repeated, EndsBelow}
 use Rattle.ttx_header.specs.Ids.{Id}
 use Rattle.ttx_certificate.specs.NamedStarts.{Certificate, IsCertificate, limit}
 use Rattle.ttx_witness.specs.Coverage.{IsCovered, IsLeftOut, Accepts}
-use Rattle.ttx_witness.specs.finding.Finding.{IsEnough, IsLeastDeadline, CanBeAccepted}
+use Rattle.ttx_witness.specs.search.Finding.{IsEnough, IsLeastDeadline, CanBeAccepted}
 use Rattle.ttx_certify.specs.Verdicts.{IsVerdict}
 use Rattle.ttx_certify.specs.declared.verdict.Verdict.{Verdict}
 use Rattle.ttx_certify.specs.declared.verdict.Verdict.TheVariants.{Yes, No}

@@ -6,11 +6,11 @@ use Rattle.std.specs.Prelude.{◌≡◌, ◌↔◌, ℕ, List, Option}
 use Rattle.ttx_page.specs.Pages.{Page}
 use Rattle.ttx_certificate.specs.Entries.{CertificateFields, IsCertificateFields, certificate_fields_at, certificate_at}
 use Rattle.ttx_certificate.specs.NamedStarts.{Certificate, IsCertificate}
-use Rattle.ttx_witness.specs.finding.Finding.{IsEnough, IsFoundFor}
+use Rattle.ttx_witness.specs.search.Finding.{IsEnough, IsFoundFor}
 use Rattle.ttx_certify.specs.Verdicts.{IsVerdict, Means}
 use Rattle.ttx_certify.specs.declared.verdict.Verdict.{Verdict}
 use Rattle.ttx_certify.specs.declared.verdict.Verdict.TheVariants.{Yes}
-use Rattle.ttx_deadline.specs.declared.finding.Asked.{Asked}
+use Rattle.ttx_deadline.specs.declared.asked_deadlines.Asked.{Asked}
 
 abbrev pub fields_with_deadline : CertificateFields → ℕ → CertificateFields
 fields_with_deadline w deadline = certificate_fields_at w.lines w.repeat deadline w.entries w.class

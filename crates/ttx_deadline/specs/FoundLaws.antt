@@ -13,7 +13,7 @@ use Rattle.ttx_certify.specs.declared.verdict.Verdict.{Verdict}
 use Rattle.ttx_certify.specs.declared.verdict.Verdict.TheVariants as certifier
 use Rattle.ttx_deadline.specs.Deadlines.{IsFoundWith}
 use Rattle.ttx_deadline.specs.Requirements.{IsRequiredVerdict}
-use Rattle.ttx_deadline.specs.declared.finding.Asked.{Asked}
+use Rattle.ttx_deadline.specs.declared.asked_deadlines.Asked.{Asked}
 use Rattle.ttx_deadline.specs.declared.requirements.RequiredVerdict.{RequiredVerdict}
 use Rattle.ttx_deadline.specs.declared.requirements.RequiredVerdict.TheVariants as required
 use Rattle.ttx_deadline.specs.declared.requirements.Unmet.TheVariants.{Deadline}

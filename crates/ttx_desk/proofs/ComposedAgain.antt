@@ -8,7 +8,7 @@ use Rattle.ttx_source.specs.Values.{Fault, not_toml}
 use Rattle.ttx_desk.specs.Again.{ComposedAgainIsTheSame}
 use Rattle.ttx_desk.specs.Composing.{author_in, ComposesTable, Composes}
 use Rattle.ttx_desk.specs.Services.{service_table}
-use Rattle.ttx_desk.specs.declared.composing.Composed.{Composed}
+use Rattle.ttx_desk.specs.declared.composition.Composed.{Composed}
 
 -- a text with a table is composed by that table
 by_table : (b : Bool) (p : Option Members) (author : Members) (c : Composed) → p ≡ Some author → Composes (if b then p else None) (Ok c)

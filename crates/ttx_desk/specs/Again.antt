@@ -2,8 +2,8 @@
 use Rattle.std.specs.Prelude.{◌≡◌, ℕ, List, string_bytes, Ok}
 use Rattle.ttx_desk.specs.Composing.{author_in, Composes}
 use Rattle.ttx_desk.specs.Decomposing.{Decomposes}
-use Rattle.ttx_desk.specs.declared.composing.Composed.{Composed}
-use Rattle.ttx_desk.specs.declared.decomposing.Decomposed.{Decomposed}
+use Rattle.ttx_desk.specs.declared.composition.Composed.{Composed}
+use Rattle.ttx_desk.specs.declared.decomposition.Decomposed.{Decomposed}
 
 abbrev pub ComposedAgainIsTheSame : Type 0
 ComposedAgainIsTheSame =

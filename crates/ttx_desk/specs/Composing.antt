@@ -14,9 +14,9 @@ use Rattle.ttx_source.specs.KeyFaults.{out_of_memory}
 use Rattle.ttx_source.specs.Services.{service_of, service_in, read_bytes}
 use Rattle.ttx_desk.specs.Services.{service_table, mistakes}
 use Rattle.ttx_desk.specs.Said.{SaysTexts}
-use Rattle.ttx_desk.specs.declared.composing.Composed.{Composed}
-use Rattle.ttx_desk.specs.declared.composing.ComposeFault.{ComposeFault}
-use Rattle.ttx_desk.specs.declared.composing.ComposeFault.TheVariants.{NotToml, Mistakes, Service, Unsaid, NoMemory}
+use Rattle.ttx_desk.specs.declared.composition.Composed.{Composed}
+use Rattle.ttx_desk.specs.declared.composition.ComposeFault.{ComposeFault}
+use Rattle.ttx_desk.specs.declared.composition.ComposeFault.TheVariants.{NotToml, Mistakes, Service, Unsaid, NoMemory}
 
 abbrev pub author_in : List ℕ → Option Members
 author_in bytes = if is_utf8 bytes then parse_document bytes else None

@@ -14,9 +14,9 @@ use Rattle.ttx_source.specs.Services.{ServiceFields, read_bytes}
 use Rattle.std.specs.declared.alloc.Global.{Global}
 use Rattle.ttx_desk.specs.Services.{service_table, mistakes}
 use Rattle.ttx_desk.specs.Composing.{author_in}
-use Rattle.ttx_desk.specs.declared.decomposing.Decomposed.{Decomposed}
-use Rattle.ttx_desk.specs.declared.decomposing.DecomposeFault.{DecomposeFault}
-use Rattle.ttx_desk.specs.declared.decomposing.DecomposeFault.TheVariants.{Service, Unsaid, NoMemory}
+use Rattle.ttx_desk.specs.declared.decomposition.Decomposed.{Decomposed}
+use Rattle.ttx_desk.specs.declared.decomposition.DecomposeFault.{DecomposeFault}
+use Rattle.ttx_desk.specs.declared.decomposition.DecomposeFault.TheVariants.{Service, Unsaid, NoMemory}
 
 -- the author's text is TOML without mistakes, and means this table
 pub record IsAuthorOf (text : List ℕ) (table : Members) : Type 0 where

@@ -18,7 +18,7 @@ use Rattle.ttx_extract.specs.NamedPages.{named}
 use Rattle.ttx_extract.specs.Naming.{AreTooMany, HasNoPage, IsNamingFault}
 use Rattle.ttx_extract.specs.OnlyService.{Outcome, written, minus_zero, no_service, long_text, other_text, unsteady, outcome_of, outcome_of_source, IsAnswer}
 use Rattle.ttx_extract.specs.ServiceTexts.{service_text}
-use Rattle.ttx_extract.specs.declared.extracting.Extracted.{Extracted}
+use Rattle.ttx_extract.specs.declared.extraction.Extracted.{Extracted}
 use Rattle.ttx_extract.specs.declared.faults.ExtractFault.{ExtractFault}
 use Rattle.ttx_extract.specs.declared.faults.ExtractFault.TheVariants.{Conflict, Reason, Info, Service, TooLong, Unsaid, NoMemory}
 use Rattle.ttx_extract.proofs.FirstInfos.{first_is}

@@ -39,7 +39,7 @@ use Rattle.ttx_extract.specs.Naming.{IsNamingFault}
 use Rattle.ttx_extract.specs.Drafts.{sent_draft}
 use Rattle.ttx_extract.specs.Made.{IsNotMade}
 use Rattle.ttx_extract.specs.ServiceTexts.{service_text}
-use Rattle.ttx_extract.specs.declared.extracting.Extracted.{Extracted}
+use Rattle.ttx_extract.specs.declared.extraction.Extracted.{Extracted}
 use Rattle.ttx_extract.specs.declared.faults.ExtractFault.{ExtractFault}
 use Rattle.ttx_extract.specs.declared.faults.ExtractFault.TheVariants.{Conflict, Reason, Info, Service, TooLong, Unsaid, NoMemory}
 

@@ -9,7 +9,7 @@ use Rattle.ttx_page.specs.Pages.{Page}
 use Rattle.ttx_page.specs.Steady.{Steady}
 use Rattle.ttx_page.specs.Streams.{repeated}
 use Rattle.ttx_witness.specs.faults.Faults.{IsPageFault}
-use Rattle.ttx_extract.specs.declared.checking.Told.{Told}
+use Rattle.ttx_extract.specs.declared.unlike_pages.Told.{Told}
 
 -- the page has the reason, and each page before it is sent unchanged
 pub record TellsPage (slots : List (List ℕ)) (pages : List Page) (told : Told) : Type 0 where

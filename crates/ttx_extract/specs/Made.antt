@@ -6,7 +6,7 @@ use Rattle.ttx_cycle.specs.Bounded.{most_bytes}
 use Rattle.ttx_source.specs.Services.{ServiceFields}
 use Rattle.ttx_certify.specs.CertifyingFiles.{IsServiceText, IsServiceFault}
 use Rattle.ttx_extract.specs.ServiceTexts.{service_text}
-use Rattle.ttx_extract.specs.declared.extracting.Extracted.{Extracted}
+use Rattle.ttx_extract.specs.declared.extraction.Extracted.{Extracted}
 use Rattle.ttx_extract.specs.declared.faults.ExtractFault.{ExtractFault}
 use Rattle.ttx_extract.specs.declared.faults.ExtractFault.TheVariants.{Service, TooLong, Unsaid, NoMemory}
 

@@ -10,7 +10,7 @@ use Rattle.ttx_source.specs.declared.faults.SourceFault.{SourceFault}
 use Rattle.ttx_source.specs.declared.faults.SourceFault.TheVariants as source
 use Rattle.ttx_extract.specs.Drafts.{sent_draft}
 use Rattle.ttx_extract.specs.Extracts.{IsSentService, IsExtract, Blames, IsSaid, Extracts}
-use Rattle.ttx_extract.specs.declared.extracting.Extracted.{Extracted}
+use Rattle.ttx_extract.specs.declared.extraction.Extracted.{Extracted}
 use Rattle.ttx_extract.specs.declared.faults.ExtractFault.{ExtractFault}
 use Rattle.ttx_extract.specs.declared.faults.ExtractFault.TheVariants.{Conflict, Reason, Info, Service, TooLong, Unsaid, NoMemory}
 

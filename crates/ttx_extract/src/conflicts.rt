@@ -16,8 +16,8 @@ ghost use Rattle.ttx_witness.specs.sent.ItemTransmissions.{sent_in};
 ghost use Rattle.ttx_extract.specs.Extracts.{Differs, UnlikeHeads, UnlikeRows, UnlikeLinks, IsUnlikeFirst, NamesItem, IsSentService, Blames};
 ghost use Rattle.ttx_extract.specs.FirstReasons.{TellsPage, HoldsText, HoldsContent};
 
-use crate::checking::Told;
 use crate::faults::ExtractFault;
+use crate::unlike_pages::Told;
 use ttx_cycle::Cycle;
 use ttx_links::{Links, read_links};
 use ttx_packet::{Slot, slot_of};

@@ -1,23 +1,23 @@
 //! Service texts from cycles: what a cycle sends, written as an author would write it.
 #![tactic(auto)]
 
-mod checking;
-mod comparing;
 mod conflicts;
 mod draft;
-mod extracting;
+mod drafts;
+mod extraction;
 pub mod faults;
-mod gathering;
+mod gathered;
 mod infos;
 pub mod laws;
-mod naming;
+mod named_pages;
 mod page_texts;
 mod refusals;
 mod sent_page;
 mod serial;
 mod service_texts;
 mod texts;
+mod unlike_pages;
 
-pub use extracting::{Extracted, extract};
+pub use extraction::{Extracted, extract};
 pub use faults::ExtractFault;
 pub use refusals::push_refusal;

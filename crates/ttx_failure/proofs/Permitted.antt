@@ -5,7 +5,7 @@ use Rattle.std.specs.Prelude.{slice_index_or}
 use Rattle.std.specs.List.{AllByRecursion}
 use Rattle.std.proofs.lemmas.Bool.{both_ways, leb-true, not-true}
 use Rattle.ttx_counter.specs.Following.{takes, choice_at, taken_from}
-use Rattle.ttx_counter.specs.declared.following.Taken.{Taken}
+use Rattle.ttx_counter.specs.declared.taken_choices.Taken.{Taken}
 use Rattle.ttx_failure.specs.Permitted.{IsPermitted, ArePermitted}
 use Rattle.ttx_header.specs.Control.{c4, c11}
 use Rattle.ttx_page.specs.Memories.{Memory}

@@ -5,7 +5,7 @@
 --   choice_items            the items of choices
 use Rattle.std.specs.Prelude.{ℕ, ◌==◌, if◌then◌else◌, List, [], ◌∷◌, ◌++◌, codes, slice_index_or}
 use Rattle.std.specs.Fmt.{decimal}
-use Rattle.ttx_counter.specs.declared.following.Taken.{Taken}
+use Rattle.ttx_counter.specs.declared.taken_choices.Taken.{Taken}
 use Rattle.ttx_failure.specs.Forms.{item_start, item_end}
 use Rattle.ttx_failure.specs.Places.{slot_of_run, moment_text}
 use Rattle.ttx_failure.specs.declared.forms.FailureForm.{FailureForm}

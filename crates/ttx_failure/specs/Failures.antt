@@ -4,7 +4,7 @@
 --   failure_text            the same in a form, with the page as authored beside what the receiver shows
 use Rattle.std.specs.Prelude.{ℕ, List, ◌++◌, codes}
 use Rattle.ttx_counter.specs.Counters.{CounterRun}
-use Rattle.ttx_counter.specs.declared.following.Taken.{Taken}
+use Rattle.ttx_counter.specs.declared.taken_choices.Taken.{Taken}
 use Rattle.ttx_document.specs.Frames.{start_html, style, body_html, end_html}
 use Rattle.ttx_failure.specs.Beside.{beside_text}
 use Rattle.ttx_failure.specs.Figures.{figures_style, figures_html}

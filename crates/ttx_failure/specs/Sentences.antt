@@ -13,7 +13,7 @@ use Rattle.std.specs.Prelude.{ℕ, ◌+◌, ◌*◌, ◌≤◌, ◌==◌, Bool, 
 use Rattle.std.specs.Fmt.{decimal}
 use Rattle.ttx_counter.specs.Counters.{CounterRun}
 use Rattle.ttx_counter.specs.declared.counter.Hit.{Hit}
-use Rattle.ttx_counter.specs.declared.following.Taken.{Taken}
+use Rattle.ttx_counter.specs.declared.taken_choices.Taken.{Taken}
 use Rattle.ttx_digits.specs.Digits.{hex_byte}
 use Rattle.ttx_digits.specs.PageIds.{id_text}
 use Rattle.ttx_failure.specs.Choices.{choice_items}

@@ -5,7 +5,7 @@
 use Rattle.std.specs.Prelude.{◌≡◌, ℕ, List, Option, Some, None}
 use Rattle.ttx_counter.specs.Counters.{CounterRun, IsCounterRun}
 use Rattle.ttx_counter.specs.Following.{IsFollowed}
-use Rattle.ttx_counter.specs.declared.following.Taken.{Taken}
+use Rattle.ttx_counter.specs.declared.taken_choices.Taken.{Taken}
 use Rattle.ttx_failure.specs.Failures.{failure_text}
 use Rattle.ttx_failure.specs.declared.forms.FailureForm.{FailureForm}
 use Rattle.ttx_page.specs.Memories.{Memory}

@@ -9,11 +9,11 @@ pub mod headers;
 pub mod ids;
 pub mod laws;
 pub mod parts;
-mod reading;
-mod writing;
+mod reader;
+mod writer;
 
 pub use control::Control;
 pub use headers::Header;
 pub use ids::PageId;
-pub use reading::read_header;
-pub use writing::{time_fill, write_header};
+pub use reader::read_header;
+pub use writer::{time_fill, write_header};

@@ -7,10 +7,10 @@
 pub mod faults;
 pub mod fields;
 pub mod laws;
-mod reading;
-mod writing;
+mod reader;
+mod writer;
 
 pub use faults::InfoFault;
 pub use fields::Info;
-pub use reading::read_info;
-pub use writing::write_info;
+pub use reader::read_info;
+pub use writer::write_info;

@@ -10,17 +10,17 @@
 //!   is accepted. Without `--late` nothing changes.
 #![tactic(auto)]
 
-mod certifying;
-mod files;
+mod acceptance;
 mod followers;
+mod judge;
 pub mod laws;
 mod unshown;
 mod verdict;
 mod verdict_lines;
 
-pub use certifying::certify_late;
-pub use files::Late;
+pub use acceptance::certify_late;
 pub use followers::{first_unshown, gap_after, greatest_gap, heads, heads_another, place_of};
+pub use judge::Late;
 pub use unshown::Unshown;
 pub use verdict::LateVerdict;
 pub use verdict_lines::late_verdict_line;

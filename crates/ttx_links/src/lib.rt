@@ -4,12 +4,12 @@
 #![tactic(auto)]
 
 pub mod laws;
-mod reading;
+mod reader;
 pub mod sets;
 pub mod targets;
-mod writing;
+mod writer;
 
-pub use reading::{read_link, read_links};
+pub use reader::{read_link, read_links};
 pub use sets::Links;
 pub use targets::Target;
-pub use writing::{write_link, write_links};
+pub use writer::{write_link, write_links};

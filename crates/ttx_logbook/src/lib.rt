@@ -8,12 +8,12 @@ mod lines;
 mod log;
 mod numbers;
 mod promises;
-mod reading;
+mod reader;
 mod settings;
+mod settings_line;
 mod values;
-mod writing;
 
 pub use log::{Log, LogFault};
-pub use reading::read_log;
+pub use reader::read_log;
+pub use settings_line::settings_line;
 pub use values::{Begin, ClockName, Entry, Event, Promise, Settings, Size, Start};
-pub use writing::settings_line;

@@ -2,8 +2,8 @@
 #![tactic(auto)]
 
 mod author_records;
-mod checking;
+mod check_objects;
 mod records;
 mod service_records;
 
-pub use checking::check_file_json;
+pub use check_objects::check_file_json;

@@ -11,7 +11,7 @@ use Rattle.ttx_files.specs.declared.faults.FilesFault.TheVariants.{Read, TooLong
 use Rattle.ttx_files.specs.declared.faults.TextFile.TheVariants as text
 use Rattle.ttx_check.specs.Reports.{IsServiceReport}
 use Rattle.ttx_mistakes.specs.LongReports.{IsLongReport}
-use Rattle.ttx_mistakes.specs.declared.checking.Style.{Style}
+use Rattle.ttx_mistakes.specs.declared.check_report.Style.{Style}
 
 abbrev pub strict_status : Bool → List ℕ → ℕ → ℕ
 strict_status strict text status = if (strict && (status == 0)) && not (slice_index text 0 == 111) then 1 else status

@@ -1,10 +1,10 @@
 //! All mistakes of a service text, and the warnings about it, each at its place.
 #![tactic(auto)]
 
-pub mod checking;
+mod all_mistakes;
+pub mod check_report;
 pub mod error_notes;
 mod faults;
-mod finding;
 pub mod first_keys;
 mod ids;
 pub mod key_notes;
@@ -19,7 +19,7 @@ mod stay_notes;
 pub mod warning_notes;
 mod whys;
 
-pub use checking::{Reported, Style, check_in, report_in_style};
-pub use finding::all_mistakes;
+pub use all_mistakes::all_mistakes;
+pub use check_report::{Reported, Style, check_in, report_in_style};
 pub use long_reports::{LongReport, long_report, notes_of, pages_in, report_on};
 pub use placed::{Paper, Placed, push_notes, value_place};

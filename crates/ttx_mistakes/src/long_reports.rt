@@ -11,8 +11,8 @@ ghost use Rattle.ttx_mistakes.specs.LongReports as rule;
 ghost use Rattle.ttx_mistakes.specs.NoteViews.{note_views};
 ghost use Rattle.ttx_mistakes.specs.PlacedViews.{placed_views};
 
+use crate::all_mistakes::all_mistakes;
 use crate::error_notes::push_errors;
-use crate::finding::all_mistakes;
 use crate::first_keys::first_place;
 use crate::key_notes::push_keys;
 use crate::long_lines::{Said, push_first, push_lines, push_placed};

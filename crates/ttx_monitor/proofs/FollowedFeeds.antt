@@ -18,10 +18,10 @@ use Rattle.ttx_monitor.specs.Wordings.{Telling, event_text, told_text}
 use Rattle.ttx_monitor.specs.Followed.{WritesEvent, CountsFollowed, IsEnd, IsFollowed, IsStopped, IsUnwritten, IsCutOff, Follows}
 use Rattle.ttx_monitor.specs.declared.ahead.Ahead.{Ahead}
 use Rattle.ttx_monitor.specs.declared.event.Event.{Event}
-use Rattle.ttx_monitor.specs.declared.following.Following.{Following}
-use Rattle.ttx_monitor.specs.declared.following.FollowFault.{FollowFault}
-use Rattle.ttx_monitor.specs.declared.following.FollowFault.TheVariants.{Feed, Write}
-use Rattle.ttx_monitor.specs.declared.following.Followed.{Followed}
+use Rattle.ttx_monitor.specs.declared.live_feed.Following.{Following}
+use Rattle.ttx_monitor.specs.declared.live_feed.FollowFault.{FollowFault}
+use Rattle.ttx_monitor.specs.declared.live_feed.FollowFault.TheVariants.{Feed, Write}
+use Rattle.ttx_monitor.specs.declared.live_feed.Followed.{Followed}
 use Rattle.ttx_files.specs.declared.faults.FeedFault.TheVariants.{Read, NoMemory}
 use Rattle.ttx_monitor.specs.declared.monitor.Monitor.{Monitor}
 use Rattle.ttx_monitor.specs.declared.tally.Tally.{Tally}

@@ -14,7 +14,7 @@ use Rattle.ttx_witness.specs.Coverage.{Certificate}
 use Rattle.ttx_monitor.specs.declared.ahead.Ahead.{Ahead}
 use Rattle.ttx_monitor.specs.declared.verdict.FeedVerdict.{FeedVerdict}
 use Rattle.ttx_monitor.specs.declared.verdict.FeedVerdict.TheVariants.{Unlike, Yes, No, Shifted}
-use Rattle.ttx_monitor.specs.declared.hearing.Heard.{Heard}
+use Rattle.ttx_monitor.specs.declared.feed_verdict.Heard.{Heard}
 use Rattle.ttx_files.specs.declared.faults.FeedFault.{FeedFault}
 
 pub file_more : (xs : List (List ℕ)) (z : List ℕ) → file_of xs ++ z ≡ file_of (xs ++ z ∷ [])

@@ -17,8 +17,8 @@ use Rattle.ttx_monitor.specs.Feeds.{IsWhole, IsBroken, IsSlipped, IsEnding, IsOv
 use Rattle.ttx_monitor.specs.declared.ahead.Ahead.{Ahead}
 use Rattle.ttx_monitor.specs.declared.breach.Breach.{Breach}
 use Rattle.ttx_monitor.specs.declared.event.Event.{Event}
-use Rattle.ttx_monitor.specs.declared.hearing.Heard.{Heard}
-use Rattle.ttx_monitor.specs.declared.hearing.Heard.TheVariants.{End, Broken, Slipped}
+use Rattle.ttx_monitor.specs.declared.feed_verdict.Heard.{Heard}
+use Rattle.ttx_monitor.specs.declared.feed_verdict.Heard.TheVariants.{End, Broken, Slipped}
 use Rattle.ttx_monitor.specs.declared.monitor.Monitor.{Monitor}
 use Rattle.ttx_monitor.proofs.FirstState.{first_kept}
 use Rattle.ttx_monitor.proofs.HeardFeeds.{file_more}

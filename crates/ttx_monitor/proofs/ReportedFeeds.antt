@@ -15,13 +15,13 @@ use Rattle.ttx_monitor.specs.Wordings.{Telling, told_text, last_text}
 use Rattle.ttx_monitor.specs.Followed.{IsEnd, IsFollowed, IsCutOff, Follows}
 use Rattle.ttx_monitor.specs.FeedReports.{IsEnded, rest_of, IsReport, ReportsFrom}
 use Rattle.ttx_monitor.specs.declared.event.Event.{Event}
-use Rattle.ttx_monitor.specs.declared.following.FollowFault.{FollowFault}
-use Rattle.ttx_monitor.specs.declared.following.FollowFault.TheVariants as follow
+use Rattle.ttx_monitor.specs.declared.live_feed.FollowFault.{FollowFault}
+use Rattle.ttx_monitor.specs.declared.live_feed.FollowFault.TheVariants as follow
 use Rattle.ttx_monitor.specs.declared.tally.Tally.{Tally}
-use Rattle.ttx_monitor.specs.declared.following.Following.{Following}
-use Rattle.ttx_monitor.specs.declared.following.Followed.{Followed}
-use Rattle.ttx_monitor.specs.declared.following.Followed.TheVariants.{End, Stopped}
-use Rattle.ttx_monitor.specs.declared.hearing.Heard.{Heard}
+use Rattle.ttx_monitor.specs.declared.live_feed.Following.{Following}
+use Rattle.ttx_monitor.specs.declared.live_feed.Followed.{Followed}
+use Rattle.ttx_monitor.specs.declared.live_feed.Followed.TheVariants.{End, Stopped}
+use Rattle.ttx_monitor.specs.declared.feed_verdict.Heard.{Heard}
 use Rattle.ttx_monitor.specs.declared.verdict.FeedVerdict.{FeedVerdict}
 
 all_true : (all : Bool) → (all ≡ false → ⊥) → all ≡ true

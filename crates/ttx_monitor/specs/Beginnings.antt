@@ -10,8 +10,8 @@ use Rattle.ttx_monitor.specs.Standing.{Stands}
 use Rattle.ttx_monitor.specs.Waiting.{IsLeft}
 use Rattle.ttx_monitor.specs.FeedVerdicts.{IsFoundIn, BeginsAt}
 use Rattle.ttx_monitor.specs.Tallies.{nothing_yet}
-use Rattle.ttx_monitor.specs.declared.beginning.Opened.{Opened}
-use Rattle.ttx_monitor.specs.declared.beginning.Begun.{Begun}
+use Rattle.ttx_monitor.specs.declared.begun_feed.Opened.{Opened}
+use Rattle.ttx_monitor.specs.declared.begun_feed.Begun.{Begun}
 
 pub record IsOpened (cycle : List (List ℕ)) (named : Option ℕ) (bytes : List ℕ) (remaining : Option (List ℕ)) (opened : Opened) : Type 0 where
   pub found : IsFoundIn cycle bytes opened.found

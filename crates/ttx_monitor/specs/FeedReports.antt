@@ -23,14 +23,14 @@ use Rattle.ttx_monitor.specs.Wordings.{Words, Telling, told_text, last_text}
 use Rattle.ttx_monitor.specs.Followed.{IsEnd, IsUnwritten, IsCutOff}
 use Rattle.ttx_monitor.specs.declared.asked.Asked.{Asked}
 use Rattle.ttx_monitor.specs.declared.event.Event.{Event}
-use Rattle.ttx_monitor.specs.declared.following.FollowFault.{FollowFault}
-use Rattle.ttx_monitor.specs.declared.following.FollowFault.TheVariants as follow
+use Rattle.ttx_monitor.specs.declared.live_feed.FollowFault.{FollowFault}
+use Rattle.ttx_monitor.specs.declared.live_feed.FollowFault.TheVariants as follow
 use Rattle.ttx_monitor.specs.declared.verdict.FeedVerdict.{FeedVerdict}
 use Rattle.ttx_monitor.specs.declared.verdict.FeedVerdict.TheVariants as verdict
-use Rattle.ttx_monitor.specs.declared.following.Followed.{Followed}
-use Rattle.ttx_monitor.specs.declared.following.Followed.TheVariants.{End, Stopped}
-use Rattle.ttx_monitor.specs.declared.hearing.Heard.{Heard}
-use Rattle.ttx_monitor.specs.declared.hearing.Heard.TheVariants as heard
+use Rattle.ttx_monitor.specs.declared.live_feed.Followed.{Followed}
+use Rattle.ttx_monitor.specs.declared.live_feed.Followed.TheVariants.{End, Stopped}
+use Rattle.ttx_monitor.specs.declared.feed_verdict.Heard.{Heard}
+use Rattle.ttx_monitor.specs.declared.feed_verdict.Heard.TheVariants as heard
 use Rattle.ttx_monitor.specs.declared.tally.Tally.{Tally}
 
 abbrev pub span_of : Option ℕ → ℕ → Option ℕ

@@ -12,8 +12,8 @@ use Rattle.ttx_monitor.specs.Events.{IsShift}
 use Rattle.ttx_monitor.specs.Standing.{Stands}
 use Rattle.ttx_monitor.specs.declared.breach.Breach.{Breach}
 use Rattle.ttx_monitor.specs.declared.event.Event.{Event}
-use Rattle.ttx_monitor.specs.declared.hearing.Heard.{Heard}
-use Rattle.ttx_monitor.specs.declared.hearing.Heard.TheVariants.{End, Broken, Slipped}
+use Rattle.ttx_monitor.specs.declared.feed_verdict.Heard.{Heard}
+use Rattle.ttx_monitor.specs.declared.feed_verdict.Heard.TheVariants.{End, Broken, Slipped}
 use Rattle.ttx_monitor.specs.declared.monitor.Monitor.{Monitor}
 
 -- the feed has these slots, and then less than the bytes of a slot (no feed of 2 ^ 64 - 1 slots has an end)

@@ -19,12 +19,12 @@ use Rattle.ttx_monitor.specs.Tallies.{nothing_yet, tally_of, is_bad}
 use Rattle.ttx_monitor.specs.Wordings.{Words, Telling, event_text, told_text}
 use Rattle.ttx_monitor.specs.declared.event.Event.{Event}
 use Rattle.ttx_monitor.specs.declared.event_texts.How.{How}
-use Rattle.ttx_monitor.specs.declared.following.Following.{Following}
-use Rattle.ttx_monitor.specs.declared.following.FollowFault.{FollowFault}
-use Rattle.ttx_monitor.specs.declared.following.FollowFault.TheVariants as follow
-use Rattle.ttx_monitor.specs.declared.following.Followed.{Followed}
-use Rattle.ttx_monitor.specs.declared.following.Followed.TheVariants.{End, Stopped}
-use Rattle.ttx_monitor.specs.declared.hearing.Heard.{Heard}
+use Rattle.ttx_monitor.specs.declared.live_feed.Following.{Following}
+use Rattle.ttx_monitor.specs.declared.live_feed.FollowFault.{FollowFault}
+use Rattle.ttx_monitor.specs.declared.live_feed.FollowFault.TheVariants as follow
+use Rattle.ttx_monitor.specs.declared.live_feed.Followed.{Followed}
+use Rattle.ttx_monitor.specs.declared.live_feed.Followed.TheVariants.{End, Stopped}
+use Rattle.ttx_monitor.specs.declared.feed_verdict.Heard.{Heard}
 use Rattle.ttx_files.specs.declared.faults.FeedFault.TheVariants.{Read, NoMemory}
 
 abbrev pub telling_of : Words → How → Telling

@@ -16,8 +16,8 @@ use Rattle.ttx_monitor.specs.Events.{moved, since, IsShift, IsEvent}
 use Rattle.ttx_monitor.specs.declared.ahead.Ahead.{Ahead}
 use Rattle.ttx_monitor.specs.declared.event.Event.{Event}
 use Rattle.ttx_monitor.specs.declared.monitor.Monitor.{Monitor}
-use Rattle.ttx_monitor.specs.declared.stepping.Step.{Step}
-use Rattle.ttx_monitor.specs.declared.stepping.Step.TheVariants.{Heard, End}
+use Rattle.ttx_monitor.specs.declared.step.Step.{Step}
+use Rattle.ttx_monitor.specs.declared.step.Step.TheVariants.{Heard, End}
 
 abbrev pub BeginsWith : List ℕ → Ahead → Type 0
 BeginsWith slot a = (more : List (List ℕ)) × (waiting a ≡ slot ∷ more)

@@ -8,9 +8,9 @@ ghost use Rattle.ttx_witness.specs.Coverage.{limit as slots_to};
 ghost use Rattle.ttx_monitor.specs.Breaches.{first_told};
 
 use crate::breach::{Breach, TextByte};
-use crate::comparing::{is_right, slot_breach, wrong_bytes};
-use crate::counting::{Pair, clear_all, clear_row, longest_with, no_streaks, note, text_end};
+use crate::comparison::{is_right, slot_breach, wrong_bytes};
 use crate::places::RowPlace;
+use crate::streaks::{Pair, clear_all, clear_row, longest_with, no_streaks, note, text_end};
 use crate::table::table_of;
 use std::alloc::Global;
 use ttx_cycle::Cycle;

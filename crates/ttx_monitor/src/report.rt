@@ -17,11 +17,11 @@ ghost use Rattle.ttx_monitor.specs.Followed.{telling_of, Follows, CountsFollowed
 ghost use Rattle.ttx_monitor.specs.FeedReports.{telling_for, IsEnded, rest_of, IsReport, WritesUnlike, ReportsFrom, ReportsFeed};
 
 use crate::asked::Asked;
-use crate::beginning::begin;
+use crate::begun_feed::begin;
 use crate::event_texts::How;
-use crate::following::{FollowFault, Followed, Following, follow};
-use crate::hearing::{Heard, ending, verdict_of};
+use crate::feed_verdict::{Heard, ending, verdict_of};
 use crate::lines::Lines;
+use crate::live_feed::{FollowFault, Followed, Following, follow};
 use crate::summary::{Closing, last_text, unlike_text};
 use crate::verdict::FeedVerdict;
 use crate::wording::Wording;

@@ -5,8 +5,8 @@ ghost use Rattle.ttx_packet.specs.Slots.{IsSlot, is_empty};
 ghost use Rattle.ttx_cycle.specs.Cycles.{slots_of};
 ghost use Rattle.ttx_monitor.specs.Slips.{IsFirstPacket, GoesOn, GoesOff, IsSlip};
 
-use crate::comparing::is_blank;
-use crate::starting::{fits, misfits_below};
+use crate::comparison::is_blank;
+use crate::feed_start::{fits, misfits_below};
 use ttx_cycle::Cycle;
 use ttx_cycle::arrays::are_slots;
 

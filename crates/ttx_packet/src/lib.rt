@@ -7,7 +7,7 @@
 pub mod laws;
 pub mod place;
 pub mod slots;
-mod writing;
+mod writer;
 
 pub use slots::{Slot, clean, slot_of};
-pub use writing::address;
+pub use writer::address;

@@ -21,6 +21,6 @@ pub struct PageMemory {
     ghost kept: { IsMemory (memory_at rows control.0 (record { six = links; show24 = show24 }) storing age fresh) },
 }
 
+mod constructors;
 mod fields;
-mod making;
 mod steps;

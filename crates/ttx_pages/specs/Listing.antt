@@ -11,6 +11,7 @@ use Rattle.std.specs.Fmt.{decimal}
 use Rattle.std.specs.List.{flat_map}
 use Rattle.ttx_header.specs.Headers.{header_fields_of, is_header}
 use Rattle.ttx_packet.specs.Slots.{Kind, kind_of, is_clean, IsEmpty, IsUnreadable, IsInfo, IsOther}
+use Rattle.ttx_tallies.specs.Tallies.{times_among}
 use Rattle.ttx_pages.specs.Keys.{page_key, page_headers, keys_sent}
 use Rattle.ttx_pages.specs.Lines.{listed_line}
 use Rattle.ttx_pages.specs.declared.keys.Part.{Part}
@@ -18,7 +19,7 @@ use Rattle.ttx_pages.specs.declared.keys.Part.TheVariants.{Head, Row, Links}
 
 -- how many packets of a part the page has
 abbrev pub times : Part → List (List ℕ) → ℕ → ℕ
-times part slots key = count_by (λ k. k == key) (keys_sent part slots)
+times part slots key = times_among (keys_sent part slots) key
 
 -- the line of the page of a header; nothing if the slot is not a header
 unfoldable pub header_line : List (List ℕ) → List ℕ → List ℕ

@@ -14,7 +14,7 @@ use std::collections::BTreeMap;
 use ttx_header::read_header;
 
 // Keeps a header, unless one of the same page has been kept.
-fn keep_first(firsts: &mut BTreeMap<u32, [u8; 42]>, slot: &[u8; 42]) -> Result<(), AllocError>
+fn keep_first(firsts: &mut BTreeMap<usize, [u8; 42]>, slot: &[u8; 42]) -> Result<(), AllocError>
     ensures first { OnOk result ((q : ℕ) → tree.get nat_cmp firsts.new q ≡ option_or (tree.get nat_cmp firsts.old q) (header_by_key q slot.now)) }
     ensures pages { OnOk result (ArePageKeys firsts.old → ArePageKeys firsts.new) }
 {
@@ -29,11 +29,11 @@ fn keep_first(firsts: &mut BTreeMap<u32, [u8; 42]>, slot: &[u8; 42]) -> Result<(
 }
 
 // The first header of each page that has one, by the number of the page.
-fn first_headers(alloc: Global, slots: &[[u8; 42]]) -> Result<BTreeMap<u32, [u8; 42]>, AllocError>
+fn first_headers(alloc: Global, slots: &[[u8; 42]]) -> Result<BTreeMap<usize, [u8; 42]>, AllocError>
     ensures first { IfOk result (λ firsts. (q : ℕ) → tree.get nat_cmp firsts q ≡ find (is_header_of q) slots.now) }
     ensures pages { IfOk result ArePageKeys }
 {
-    let mut firsts: BTreeMap<u32, [u8; 42]> = BTreeMap::new(alloc);
+    let mut firsts: BTreeMap<usize, [u8; 42]> = BTreeMap::new(alloc);
     for slot in slots {
         keep_first(&mut firsts, slot)?;
     }
@@ -41,7 +41,10 @@ fn first_headers(alloc: Global, slots: &[[u8; 42]]) -> Result<BTreeMap<u32, [u8;
 }
 
 // The headers in a map, by rising numbers.
-fn headers_of(alloc: Global, firsts: &BTreeMap<u32, [u8; 42]>) -> Result<Vec<[u8; 42]>, AllocError>
+fn headers_of(
+    alloc: Global,
+    firsts: &BTreeMap<usize, [u8; 42]>,
+) -> Result<Vec<[u8; 42]>, AllocError>
     ensures values { IfOk result (λ headers. headers.items ≡ map (λ e. e.1) firsts.now.entries) }
     ensures ordered { tree.IsOrdered nat_cmp firsts.now }
 {

@@ -21,15 +21,15 @@ pub enum Part {
 }
 
 /// A page as one number. The numbers rise by magazine, page number and subcode; each is below 37,748,736.
-pub fn page_key(id: PageId) -> u32
+pub fn page_key(id: PageId) -> usize
     ensures value { result ≡ page_key id }
     ensures range { result < 37748736 }
 {
-    (u32::from(id.mag()) * 256 + u32::from(id.page())) * 16384 + u32::from(id.sub())
+    (usize::from(id.mag()) * 256 + usize::from(id.page())) * 16384 + usize::from(id.sub())
 }
 
 /// Notes the page that a header opens in its magazine.
-pub fn open_page(current: &mut [u32; 8], slot: &[u8; 42])
+pub fn open_page(current: &mut [usize; 8], slot: &[u8; 42])
     ensures { current.new ≡ opened current.old slot.now }
 {
     if let Some(header) = read_header(slot) {
@@ -38,14 +38,14 @@ pub fn open_page(current: &mut [u32; 8], slot: &[u8; 42])
     }
 }
 
-fn no_pages() -> [u32; 8]
+fn no_pages() -> [usize; 8]
     ensures { result ≡ replicate 8 0 }
 {
     [0; 8]
 }
 
 // The page that each magazine has open after these slots.
-fn open_pages(slots: &[[u8; 42]]) -> [u32; 8]
+fn open_pages(slots: &[[u8; 42]]) -> [usize; 8]
     ensures { result ≡ opens slots.now }
 {
     let mut current = no_pages();
@@ -70,7 +70,7 @@ fn magazine_place_in(part: Part, slot: &[u8; 42]) -> Option<usize>
 }
 
 /// The pages of a cycle's packets of this part, in the order of their slots. `Err` if memory runs out.
-pub fn keys_sent(alloc: Global, part: Part, slots: &[[u8; 42]]) -> Result<Vec<u32>, AllocError>
+pub fn keys_sent(alloc: Global, part: Part, slots: &[[u8; 42]]) -> Result<Vec<usize>, AllocError>
     ensures { IfOk result (λ keys. keys.items ≡ keys_sent part slots.now) }
 {
     let mut current = open_pages(slots);
@@ -99,7 +99,7 @@ fn magazine_place(slot: &[u8; 42]) -> Option<usize>
 }
 
 // The page that the magazine of the slot has open.
-fn page_open_at(current: &[u32; 8], slot: &[u8; 42]) -> u32
+fn page_open_at(current: &[usize; 8], slot: &[u8; 42]) -> usize
     ensures { result ≡ page_open_at current.now (magazine_place (kind_of slot.now)) }
 {
     match magazine_place(slot) {
@@ -109,7 +109,7 @@ fn page_open_at(current: &[u32; 8], slot: &[u8; 42]) -> u32
 }
 
 /// The page, as a number, to which each slot of a cycle belongs; 0 if it belongs to none. `Err` if memory runs out.
-pub fn owners(alloc: Global, slots: &[[u8; 42]]) -> Result<Vec<u32>, AllocError>
+pub fn owners(alloc: Global, slots: &[[u8; 42]]) -> Result<Vec<usize>, AllocError>
     ensures pages { IfOk result (λ pages. pages.items ≡ owners slots.now) }
     ensures size { IfOk result (λ pages. length pages.items ≡ length slots.now) }
 {

@@ -6,13 +6,12 @@ pub mod keys;
 pub mod laws;
 mod lines;
 mod listing;
-mod paging;
+mod page_list;
 mod records;
 mod rest;
-mod tallies;
 
 pub use firsts::page_headers;
 pub use keys::Part;
 pub use listing::pages_text;
-pub use paging::{pages, pages_json};
+pub use page_list::{pages, pages_json};
 pub use records::pages_records;

@@ -9,17 +9,17 @@ use crate::firsts::page_headers;
 use crate::keys::{Part, keys_sent, page_key};
 use crate::lines::push_page_line;
 use crate::rest::{push_others, push_slots};
-use crate::tallies::{count_of, tally};
 use std::alloc::{AllocError, Global};
 use std::collections::BTreeMap;
 use ttx_header::read_header;
+use ttx_tallies::{count_of, tally};
 
 /// How many packets of each part each page has.
 #[derive(Drop)]
 pub(crate) struct Sent {
-    pub heads: BTreeMap<u32, usize>,
-    pub rows: BTreeMap<u32, usize>,
-    pub links: BTreeMap<u32, usize>,
+    pub heads: BTreeMap<usize, usize>,
+    pub rows: BTreeMap<usize, usize>,
+    pub links: BTreeMap<usize, usize>,
 }
 
 // How many packets of one part each page has.
@@ -27,7 +27,7 @@ fn counts_of(
     alloc: Global,
     part: Part,
     slots: &[[u8; 42]],
-) -> Result<BTreeMap<u32, usize>, AllocError>
+) -> Result<BTreeMap<usize, usize>, AllocError>
     ensures { IfOk result (λ counts. CountsByPage part slots.now counts) }
 {
     let keys = keys_sent(alloc, part, slots)?;

@@ -14,12 +14,12 @@ use crate::keys::{Part, page_key};
 use crate::lines::push_characters;
 use crate::listing::{Sent, all_counts};
 use crate::rest::{blanks, correcteds, infos, others, unreadables};
-use crate::tallies::count_of;
 use bitflags::Flags;
 use std::alloc::{AllocError, Global};
 use ttx_digits::push_id;
 use ttx_header::{Control, Header, PageId, read_header};
 use ttx_json::{count, flag, push_object, word};
+use ttx_tallies::count_of;
 
 // How often each part of a page is sent.
 #[derive(Clone, Copy)]

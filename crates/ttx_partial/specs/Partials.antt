@@ -9,7 +9,7 @@
 use Rattle.std.specs.Prelude.{◌≡◌, ◌⊎◌, ℕ, List, length, string_bytes, ⊤, None, Result, Ok, Err}
 use Rattle.ttx_certify.specs.CertifyingFiles.{IsServiceText}
 use Rattle.ttx_extract.specs.Extracts.{IsExtract, AnswersFault}
-use Rattle.ttx_extract.specs.declared.extracting.Extracted.{Extracted}
+use Rattle.ttx_extract.specs.declared.extraction.Extracted.{Extracted}
 use Rattle.ttx_extract.specs.declared.faults.ExtractFault.{ExtractFault}
 use Rattle.ttx_extract.specs.declared.faults.ExtractFault.TheVariants.{NoMemory}
 use Rattle.ttx_partial.specs.LeftOut.{fault_page, IsLeft, AreLeft, most_left}

@@ -5,9 +5,9 @@ ghost use Rattle.ttx_render.specs.Cells.{space_cell};
 ghost use Rattle.ttx_picture.specs.Ansi.{sgr, foreground, background, blink, change, changes, cells_ansi, row_ansi, rows_ansi, terminal_of};
 
 use crate::links::push_links;
-use crate::shown::{Mosaics, char_with, colour_number};
+use crate::shown::{Mosaics, char_with};
 use std::alloc::AllocError;
-use ttx_render::{Cell, Colour, Glyph, Part, View};
+use ttx_render::{Cell, Colour, Glyph, Part, View, colour_number};
 
 fn push_sgr(text: &mut String, number: u8) -> Result<(), AllocError>
     ensures { OnOk result (string_bytes text.new ≡ string_bytes text.old ++ sgr number) }

@@ -11,7 +11,7 @@ use Rattle.ttx_page.specs.Pages.{Page, IsPage, IsBlank, needed, is_blank}
 use Rattle.ttx_source.specs.Services.{ServiceFields, pages_of}
 use Rattle.ttx_plan.specs.Acceptance.{IsPlanned, IsTransmitted, PlannedIsAccepted, IsLeastFound, PlannedIsFound}
 use Rattle.ttx_plan.specs.Contents.{is_sent_to}
-use Rattle.ttx_witness.specs.finding.Finding.{CanBeAccepted, IsLeastDeadline}
+use Rattle.ttx_witness.specs.search.Finding.{CanBeAccepted, IsLeastDeadline}
 use Rattle.ttx_witness.specs.laws.SureItems.{HasSureStart, AllSureHaveStarts, SureItemsAreAccepted}
 use Rattle.ttx_plan.proofs.ReadPackets.{LawsBelow}
 use Rattle.ttx_plan.proofs.RepeatedHeaders.{planned_is_sure}

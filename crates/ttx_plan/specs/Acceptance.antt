@@ -21,7 +21,7 @@ use Rattle.ttx_plan.specs.Laws.{IsSaid}
 use Rattle.ttx_plan.specs.Ranges.{ArePlaces}
 use Rattle.ttx_source.specs.Services.{Authored, ServiceFields, pages_of, IsService}
 use Rattle.ttx_witness.specs.Coverage.{Certificate, Accepts}
-use Rattle.ttx_witness.specs.finding.Finding.{CanBeAccepted, IsFoundFor}
+use Rattle.ttx_witness.specs.search.Finding.{CanBeAccepted, IsFoundFor}
 
 -- each page has six links, which lead to targets
 abbrev pub AreLinked : List Authored → Type 0

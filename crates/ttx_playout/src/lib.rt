@@ -3,14 +3,14 @@
 
 mod edition;
 mod faults;
-mod following;
 mod late_change;
 pub mod laws;
 mod on_air;
 mod state;
+mod unfollowed_pages;
 
 pub use edition::Edition;
 pub use faults::{ChangeFault, StartFault};
-pub use following::{first_unfollowed, is_followed_across};
 pub use late_change::LateChange;
 pub use state::OnAir;
+pub use unfollowed_pages::{first_unfollowed, is_followed_across};

@@ -10,9 +10,9 @@ ghost use Rattle.ttx_witness.specs.Coverage.{limit};
 
 use crate::edition::Edition;
 use crate::faults::{ChangeFault, StartFault};
-use crate::following::followed_change;
 use crate::late_change::LateChange;
 use crate::state::OnAir;
+use crate::unfollowed_pages::followed_change;
 use std::alloc::Global;
 use std::mem;
 use ttx_certify::{Verdict, certify};

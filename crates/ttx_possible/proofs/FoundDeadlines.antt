@@ -3,7 +3,7 @@ use Rattle.std.proofs.Common.{ℕ, List, Option, Some, None, is_some, IsTrue, sy
 use Rattle.ttx_page.specs.Pages.{Page}
 use Rattle.ttx_page.specs.declared.class.Class.TheVariants.{Any}
 use Rattle.ttx_certificate.specs.NamedStarts.{Certificate, IsCertificate}
-use Rattle.ttx_witness.specs.finding.Finding.{IsFoundFor, CanBeAccepted}
+use Rattle.ttx_witness.specs.search.Finding.{IsFoundFor, CanBeAccepted}
 use Rattle.ttx_possible.specs.Values.{HasDeadline}
 
 -- a certificate with the numbers of the one that is found

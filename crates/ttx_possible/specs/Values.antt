@@ -7,7 +7,7 @@
 use Rattle.std.specs.Prelude.{◌≡◌, ◌⊎◌, ℕ, ◌+◌, ◌<◌, ◌≤◌, List}
 use Rattle.ttx_page.specs.Pages.{Page}
 use Rattle.ttx_page.specs.declared.class.Class.TheVariants.{Any}
-use Rattle.ttx_witness.specs.finding.Finding.{CanBeAccepted}
+use Rattle.ttx_witness.specs.search.Finding.{CanBeAccepted}
 use Rattle.ttx_possible.specs.declared.line_values.Values.{Values}
 
 pub record HasDeadline (slots : List (List ℕ)) (pages : List Page) (lines : ℕ) : Type 0 where

@@ -14,8 +14,8 @@ use Rattle.ttx_desk.specs.Composing.{author_in}
 use Rattle.ttx_desk.specs.Places.{IsPlace}
 use Rattle.ttx_desk.specs.Services.{service_table, mistakes}
 use Rattle.ttx_desk.specs.Words.{IsFaultWords}
-use Rattle.ttx_desk.specs.declared.composing.ComposeFault.{ComposeFault}
-use Rattle.ttx_desk.specs.declared.composing.ComposeFault.TheVariants.{NotToml, Mistakes, Service, Unsaid, NoMemory}
+use Rattle.ttx_desk.specs.declared.composition.ComposeFault.{ComposeFault}
+use Rattle.ttx_desk.specs.declared.composition.ComposeFault.TheVariants.{NotToml, Mistakes, Service, Unsaid, NoMemory}
 use Rattle.ttx_desk.specs.declared.mistakes.Mistake.{Mistake}
 use Rattle.ttx_places.specs.Places.{place_of}
 use Rattle.ttx_places.specs.Positions.{line_after, column_after}

@@ -13,7 +13,7 @@ use Rattle.ttx_deadline.specs.Deadlines.{IsFoundWith}
 use Rattle.ttx_plan.specs.Carries.{Carries}
 use Rattle.ttx_playout.specs.Schedules.{Edition}
 use Rattle.ttx_promise.specs.Promises.{IsRaised, KeepsPromises}
-use Rattle.ttx_promise.specs.declared.planning.Viewers.{Viewers}
+use Rattle.ttx_promise.specs.declared.promised_plan.Viewers.{Viewers}
 use Rattle.ttx_source.specs.Promises.{PromiseFields, read_promises}
 use Rattle.ttx_source.specs.Services.{ServiceFields, pages_of, read_bytes}
 use Rattle.ttx_press.specs.Houses.{asked_of, viewers_of}

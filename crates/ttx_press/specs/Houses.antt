@@ -7,8 +7,8 @@ use Rattle.std.specs.Prelude.{Bool, true, false}
 use Rattle.ttx_page.specs.declared.class.Class.TheVariants.{Any}
 use Rattle.ttx_air.specs.declared.airtime.Receivers.{Receivers}
 use Rattle.ttx_air.specs.declared.airtime.Receivers.TheVariants.{AtOnce, Late}
-use Rattle.ttx_deadline.specs.declared.finding.Asked.{Asked}
-use Rattle.ttx_promise.specs.declared.planning.Viewers.{Viewers}
+use Rattle.ttx_deadline.specs.declared.asked_deadlines.Asked.{Asked}
+use Rattle.ttx_promise.specs.declared.promised_plan.Viewers.{Viewers}
 use Rattle.ttx_press.specs.declared.house.House.{House}
 
 abbrev pub is_late : Receivers → Bool

@@ -23,14 +23,14 @@ use Rattle.ttx_plan.specs.Carries.{blocks_sent}
 use Rattle.ttx_plan.specs.Spread.{IsTooLongSpread}
 use Rattle.ttx_promise.specs.Lateness.{LateFields, late_at}
 use Rattle.ttx_promise.specs.Promises.{IsRaised, IsMissed}
-use Rattle.ttx_promise.specs.declared.planning.Viewers.{Viewers}
+use Rattle.ttx_promise.specs.declared.promised_plan.Viewers.{Viewers}
 use Rattle.ttx_source.specs.Promises.{PromiseFields}
 use Rattle.ttx_source.specs.Services.{ServiceFields, pages_of}
 use Rattle.ttx_witness.specs.declared.faults.reason.Reason.{Reason}
-use Rattle.ttx_witness.specs.declared.waiting.wait.PageWait.{PageWait}
-use Rattle.ttx_witness.specs.declared.waiting.wait.Wait.{Wait}
-use Rattle.ttx_witness.specs.declared.waiting.wait.Wait.TheVariants.{Fields}
-use Rattle.ttx_witness.specs.waiting.PageWaits.{AreWaits}
+use Rattle.ttx_witness.specs.declared.waits.wait.PageWait.{PageWait}
+use Rattle.ttx_witness.specs.declared.waits.wait.Wait.{Wait}
+use Rattle.ttx_witness.specs.declared.waits.wait.Wait.TheVariants.{Fields}
+use Rattle.ttx_witness.specs.waits.PageWaits.{AreWaits}
 use Rattle.ttx_press.specs.AuthorRefusals.{IsAuthorRefusal}
 use Rattle.ttx_press.specs.Houses.{asked_of, viewers_of}
 use Rattle.ttx_press.specs.declared.house.House.{House}

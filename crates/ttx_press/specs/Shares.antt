@@ -16,9 +16,9 @@ use Rattle.ttx_late.specs.Followed.{IsGreatestGap}
 use Rattle.ttx_air.specs.declared.airtime.Receivers.{Receivers}
 use Rattle.ttx_air.specs.declared.airtime.Receivers.TheVariants.{AtOnce, Late}
 use Rattle.ttx_deadline.specs.LateRequirements.{fields_up}
-use Rattle.ttx_promise.specs.declared.planning.Viewers.{Viewers}
+use Rattle.ttx_promise.specs.declared.promised_plan.Viewers.{Viewers}
 use Rattle.ttx_witness.specs.Coverage.{Certificate}
-use Rattle.ttx_witness.specs.finding.Finding.{IsFoundFor}
+use Rattle.ttx_witness.specs.search.Finding.{IsFoundFor}
 use Rattle.ttx_press.specs.declared.demand.Demand.{Demand}
 use Rattle.ttx_press.specs.declared.house.House.{House}
 

@@ -3,20 +3,20 @@
 #![tactic(auto)]
 
 mod author_refusals;
-mod certifying;
+mod certificates;
 mod changes;
 mod demand;
 mod house;
 mod late_words;
 pub mod laws;
-mod opening;
-mod planning;
+mod opened_air;
+mod planned_service;
 mod press;
-mod printing;
-mod reading;
+mod printed_edition;
 mod refusals;
+mod script;
 mod service_file;
-mod sharing;
+mod shared_time;
 mod slow_pages;
 mod successor;
 mod terms;
@@ -24,6 +24,6 @@ mod turns;
 
 pub use demand::Demand;
 pub use house::House;
-pub use opening::{Opening, opened};
-pub use printing::printed;
+pub use opened_air::{Opening, opened};
+pub use printed_edition::printed;
 pub use service_file::ServiceFile;

@@ -9,7 +9,7 @@ ghost use Rattle.ttx_press.specs.Refusals.{Says};
 
 use crate::changes::left_open;
 use crate::house::House;
-use crate::printing::printed;
+use crate::printed_edition::printed;
 use crate::refusals::refused_line;
 use crate::successor::successor;
 use std::alloc::Global;

@@ -8,11 +8,11 @@ use Rattle.ttx_promise.specs.Deadlines.{AreDeadlines}
 use Rattle.ttx_promise.specs.Lateness.{LateFields, late_of}
 use Rattle.ttx_promise.specs.Promises.{IsRaised, IsSpreadFor, IsMissed, KeepsPromises, RaisesLatest, IsJudged, Improves, Ends}
 use Rattle.ttx_promise.specs.Views.{late_view}
-use Rattle.ttx_promise.specs.declared.planning.Improved.{Improved}
-use Rattle.ttx_promise.specs.declared.planning.Improved.TheVariants as improved
-use Rattle.ttx_promise.specs.declared.planning.Missed.{Missed}
-use Rattle.ttx_promise.specs.declared.planning.Missed.TheVariants as missed
-use Rattle.ttx_promise.specs.declared.planning.Viewers.{Viewers}
+use Rattle.ttx_promise.specs.declared.promised_plan.Improved.{Improved}
+use Rattle.ttx_promise.specs.declared.promised_plan.Improved.TheVariants as improved
+use Rattle.ttx_promise.specs.declared.promised_plan.Missed.{Missed}
+use Rattle.ttx_promise.specs.declared.promised_plan.Missed.TheVariants as missed
+use Rattle.ttx_promise.specs.declared.promised_plan.Viewers.{Viewers}
 use Rattle.ttx_promise.proofs.KeptPromises.{are_kept}
 use Rattle.ttx_promise.proofs.RaisedPages.{same_service, further_raised}
 

@@ -11,7 +11,7 @@ use Rattle.ttx_source.specs.Services.{Authored, ServiceFields, IsService}
 use Rattle.ttx_promise.specs.Lateness.{often_or, often_at, page_or_none, page_at, IsLatest}
 use Rattle.ttx_promise.specs.Promises.{MayRise, IsRaised, raised, room, TriesToRaise, RaisesLatest}
 use Rattle.ttx_promise.specs.Searching.{MayBeRaised, GoesOn}
-use Rattle.ttx_promise.specs.declared.planning.Viewers.{Viewers}
+use Rattle.ttx_promise.specs.declared.promised_plan.Viewers.{Viewers}
 use Rattle.ttx_promise.proofs.LatestPromise.{latest_weighs, is_free, is_rare}
 use Rattle.ttx_promise.proofs.PageOften.{IsSentSo, authored_there, at_least_once, room_less}
 use Rattle.ttx_promise.proofs.RaisedPages.{one_raised}

@@ -20,17 +20,17 @@ use Rattle.ttx_plan.specs.Following.{AreFollowed}
 use Rattle.ttx_plan.specs.Spread.{IsSpreadPlan, IsTooLongSpread}
 use Rattle.ttx_source.specs.Promises.{PromiseFields}
 use Rattle.ttx_source.specs.Services.{Authored, ServiceFields, pages_of, with_often}
-use Rattle.ttx_witness.specs.waiting.PageWaits.{CanAccept}
+use Rattle.ttx_witness.specs.waits.PageWaits.{CanAccept}
 use Rattle.ttx_promise.specs.Deadlines.{AreDeadlines}
 use Rattle.ttx_promise.specs.Lateness.{often_at, NoneMayRise, IsLatest, LateFields, late_of}
 use Rattle.ttx_promise.specs.Views.{late_view}
 use Rattle.ttx_promise.specs.declared.faults.PromiseFault.{PromiseFault}
 use Rattle.ttx_promise.specs.declared.faults.PromiseFault.TheVariants.{NoPages, TooLong, Late, NoMemory}
-use Rattle.ttx_promise.specs.declared.planning.Viewers.{Viewers}
-use Rattle.ttx_promise.specs.declared.planning.Missed.{Missed}
-use Rattle.ttx_promise.specs.declared.planning.Missed.TheVariants as missed
-use Rattle.ttx_promise.specs.declared.planning.Improved.{Improved}
-use Rattle.ttx_promise.specs.declared.planning.Improved.TheVariants as improved
+use Rattle.ttx_promise.specs.declared.promised_plan.Viewers.{Viewers}
+use Rattle.ttx_promise.specs.declared.promised_plan.Missed.{Missed}
+use Rattle.ttx_promise.specs.declared.promised_plan.Missed.TheVariants as missed
+use Rattle.ttx_promise.specs.declared.promised_plan.Improved.{Improved}
+use Rattle.ttx_promise.specs.declared.promised_plan.Improved.TheVariants as improved
 
 -- what is known of each plan that `plan_spread` makes
 pub record IsSpreadFor (late : Bool) (class : Class) (service : ServiceFields) (cycle : List (List ℕ)) : Type 0 where

@@ -9,7 +9,7 @@ use Rattle.ttx_plan.specs.Spread.{IsTooLongSpread}
 use Rattle.ttx_source.specs.Promises.{PromiseFields}
 use Rattle.ttx_source.specs.Services.{ServiceFields}
 use Rattle.ttx_promise.specs.Promises.{IsRaised, IsSpreadFor, raised, room}
-use Rattle.ttx_promise.specs.declared.planning.Viewers.{Viewers}
+use Rattle.ttx_promise.specs.declared.promised_plan.Viewers.{Viewers}
 
 -- the page at an index sent twice as often, and the cycle fits; or the service as it was
 abbrev pub MayBeRaised : Bool → Class → ℕ → ServiceFields → ServiceFields → Bool → Type 0

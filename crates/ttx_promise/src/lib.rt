@@ -7,20 +7,20 @@ mod deadlines;
 mod faults;
 mod lateness;
 mod layout;
+mod layout_search;
 mod parallel_layout;
-mod planning;
 mod promise_lines;
 mod promised_lines;
+mod promised_plan;
 mod promised_reports;
-mod searching;
 mod serial_layout;
 mod waits_and_promises;
 mod waits_by_layout;
 
 pub use absent_pages::other_pages;
 pub use faults::{LatePage, PromiseFault};
-pub use planning::{Viewers, plan_promises};
 pub use promise_lines::late_lines;
+pub use promised_plan::{Viewers, plan_promises};
 pub use promised_reports::{
     PromisedReport, Reported, report_promised_items, report_promises, report_promises_with,
 };

@@ -2,7 +2,7 @@
 
 use crate::layout::{Block, Layout, Outline, Stand, blocks};
 use crate::parallel_layout::parallel_layout;
-use crate::planning::Viewers;
+use crate::promised_plan::Viewers;
 use crate::serial_layout::{Frame, serial_layout};
 use std::alloc::{AllocError, Global};
 use ttx_plan::spread_places;

@@ -8,7 +8,7 @@ use Rattle.ttx_page.specs.declared.item.Item.{Item}
 use Rattle.ttx_proof.specs.Bridging.{is_start}
 use Rattle.ttx_proof.specs.Joining.{AreGiven, AreOf}
 use Rattle.ttx_proof.specs.Splices.{Splice}
-use Rattle.ttx_proof.specs.declared.joining.ItemSent.{ItemSent}
+use Rattle.ttx_proof.specs.declared.joined_items.ItemSent.{ItemSent}
 use Rattle.ttx_proof.specs.declared.starts.NamedStarts.{NamedStarts}
 
 abbrev pub stands_at_start : NamedStarts → ℤ → Bool

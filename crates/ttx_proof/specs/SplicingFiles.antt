@@ -24,10 +24,10 @@ use Rattle.ttx_proof.specs.Splices.{Splice}
 use Rattle.ttx_proof.specs.SentVerdicts.{IsSentVerdict, SentMeans}
 use Rattle.ttx_proof.specs.SpliceLines.{splice_line, sent_line}
 use Rattle.ttx_proof.specs.Verdicts.{IsSpliceVerdict, SpliceMeans}
-use Rattle.ttx_proof.specs.declared.reading.Cycles.{Cycles}
-use Rattle.ttx_proof.specs.declared.reading.Services.{Services}
-use Rattle.ttx_proof.specs.declared.reading.Witnesses.{Witnesses}
-use Rattle.ttx_proof.specs.declared.reading.Six.{Six}
+use Rattle.ttx_proof.specs.declared.six_files.Cycles.{Cycles}
+use Rattle.ttx_proof.specs.declared.six_files.Services.{Services}
+use Rattle.ttx_proof.specs.declared.six_files.Witnesses.{Witnesses}
+use Rattle.ttx_proof.specs.declared.six_files.Six.{Six}
 use Rattle.ttx_proof.specs.declared.sent.SentVerdict.{SentVerdict}
 use Rattle.ttx_proof.specs.declared.verdict.SpliceVerdict.{SpliceVerdict}
 

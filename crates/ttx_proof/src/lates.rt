@@ -6,9 +6,9 @@ ghost use Rattle.ttx_page.specs.Views.{page_of, ids_of};
 ghost use Rattle.ttx_witness.specs.sent.Collected.{IsIndex};
 ghost use Rattle.ttx_proof.specs.Splicing.{splice_between, AreKnown, AreSentOn, StandsIn, TellsBridged, TellsLate, TellsLateOf, TellsLates};
 
-use crate::bridging::is_bridged;
+use crate::bridges::is_bridged;
 use crate::common::equal_place;
-use crate::joining::ItemSent;
+use crate::joined_items::ItemSent;
 use crate::sides::Sides;
 use crate::starts::NamedStarts;
 use crate::verdict::SpliceReason;

@@ -5,33 +5,33 @@
 //! each under the header that it has in the joined stream.
 #![tactic(auto)]
 
-mod bridging;
+mod acceptance;
+mod bridges;
 mod common;
-mod files;
-mod following;
-mod joining;
-mod judging;
+mod first_seam;
+mod joined_items;
 mod last_blocks;
 mod lates;
 pub mod laws;
 mod lines;
 mod periods;
-mod reading;
-mod seaming;
+mod run_order;
 mod seams;
 mod sent;
 mod sides;
-mod splicing;
+mod six_files;
+mod spliced_files;
 mod starts;
 mod verdict;
+mod verdict_line;
 
-pub use files::{splice_files, splice_files_sent, splice_six};
-pub use judging::{SpliceJudge, answer_six};
+pub use acceptance::splice;
 pub use last_blocks::{Amid, Stored, first_amid, first_stored};
 pub use lines::splice_line;
 pub use periods::{sent_line, sent_verdict};
-pub use reading::Six;
 pub use seams::latest_header;
 pub use sent::SentVerdict;
-pub use splicing::splice;
+pub use six_files::Six;
+pub use spliced_files::{splice_files, splice_files_sent, splice_six};
 pub use verdict::{SpliceReason, SpliceVerdict};
+pub use verdict_line::{SpliceJudge, answer_six};

@@ -2,10 +2,10 @@
 #![tactic(auto)]
 
 mod entry;
-mod explaining;
+mod explanation;
 mod names;
 mod reasons;
 
 pub use entry::Entry;
-pub use explaining::{Explained, explain};
+pub use explanation::{Explained, explain};
 pub use reasons::REASONS;

@@ -8,9 +8,9 @@ use Rattle.ttx_page.specs.Receivers.{Step}
 use Rattle.ttx_page.specs.declared.class.Class.{Class}
 use Rattle.ttx_page.specs.declared.selection.Selection.{Selection}
 use Rattle.ttx_receiver.specs.Touching.{AreAlikeBut, touch_of, LeavesOthers, StepTouches, IsRowBelow, with_touch, IsBehind}
-use Rattle.ttx_receiver.specs.declared.touching.Touch.{Touch}
-use Rattle.ttx_receiver.specs.declared.touching.Touch.TheVariants.{Nothing, Row, Everything}
-use Rattle.ttx_receiver.specs.declared.touching.Touched.{Touched}
+use Rattle.ttx_receiver.specs.declared.touch.Touch.{Touch}
+use Rattle.ttx_receiver.specs.declared.touch.Touch.TheVariants.{Nothing, Row, Everything}
+use Rattle.ttx_receiver.specs.declared.touch.Touched.{Touched}
 
 -- differences add up in a range that contains both
 module _ (k m n : Memory) where

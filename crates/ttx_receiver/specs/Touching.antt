@@ -13,9 +13,9 @@ use Rattle.ttx_page.specs.Pages.{matches, selected_mag}
 use Rattle.ttx_page.specs.Receivers.{Step}
 use Rattle.ttx_page.specs.declared.class.Class.{Class}
 use Rattle.ttx_page.specs.declared.selection.Selection.{Selection}
-use Rattle.ttx_receiver.specs.declared.touching.Touch.{Touch}
-use Rattle.ttx_receiver.specs.declared.touching.Touch.TheVariants.{Nothing, Row as TheRow, Everything}
-use Rattle.ttx_receiver.specs.declared.touching.Touched.{Touched}
+use Rattle.ttx_receiver.specs.declared.touch.Touch.{Touch}
+use Rattle.ttx_receiver.specs.declared.touch.Touch.TheVariants.{Nothing, Row as TheRow, Everything}
+use Rattle.ttx_receiver.specs.declared.touch.Touched.{Touched}
 
 -- two memories show the same except perhaps in a range of rows
 pub record AreAlikeBut (begin end : ℕ) (m n : Memory) : Type 0 where

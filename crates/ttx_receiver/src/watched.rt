@@ -11,7 +11,7 @@ ghost use Rattle.ttx_receiver.specs.contracts.watched.Watched.{the_row};
 use crate::laws::{idle_steps_touch_nothing, step_touches};
 use crate::receiver::Receiver;
 use crate::steps::EMPTY;
-use crate::touching::{Touched, UNTOUCHED, touch_of};
+use crate::touch::{Touched, UNTOUCHED, touch_of};
 use std::marker::Model;
 use ttx_page::{Class, PageMemory, Selection};
 use ttx_render::{Cache, View};

@@ -20,6 +20,6 @@ mod view;
 pub use cache::Cache;
 pub use cell_words::cell_word;
 pub use cells::{Cell, Glyph, Part};
-pub use colour::Colour;
+pub use colour::{Colour, colour_number};
 pub use compare::same_but_clock;
 pub use view::{View, render};

@@ -19,7 +19,7 @@ use Rattle.ttx_air.specs.Airings.{Written, written_of, Logs, scene, Airtime, Air
 use Rattle.ttx_playout.specs.Schedules.{Edition}
 use Rattle.ttx_press.specs.declared.demand.Demand.{Demand}
 use Rattle.ttx_press.specs.declared.house.House.{House}
-use Rattle.ttx_press.specs.declared.opening.Opening.{Opening}
+use Rattle.ttx_press.specs.declared.opened_air.Opening.{Opening}
 use Rattle.ttx_press.specs.Openings.{IsOpening, IsNoOpening}
 use Rattle.ttx_press.specs.Presses.{prints}
 use Rattle.ttx_logbook.specs.LogTexts.{PromiseFields, SettingsFields, EntryFields, LogFields, settings_text}

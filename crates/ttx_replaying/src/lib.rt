@@ -1,16 +1,16 @@
 //! An air again, from its log and the texts that were on the air.
 #![tactic(auto)]
 
-mod comparing;
 mod faults;
+mod first_edition;
 mod lines;
+mod log_comparison;
 mod moments;
-mod opening;
-mod replaying;
+mod replay;
 mod settings;
 
-pub use comparing::is_same_so_far;
 pub use faults::ReplayFault;
 pub use lines::{log_line, outcome_line, outcome_status};
+pub use log_comparison::is_same_so_far;
 pub use moments::begin_of;
-pub use replaying::replay;
+pub use replay::replay;

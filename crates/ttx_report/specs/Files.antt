@@ -10,7 +10,7 @@ use Rattle.hex.specs.Hex.{encode_lower}
 use Rattle.sha2.specs.Sha256.{sha256}
 use Rattle.ttx_document.specs.Escapes.{escaped_text}
 use Rattle.ttx_document.specs.Frames.{heading_html}
-use Rattle.ttx_report.specs.declared.files.Marks.{Marks as MarksValue}
+use Rattle.ttx_report.specs.declared.marks.Marks.{Marks as MarksValue}
 
 pub record Marks : Type 0 where
   pub cycle : List ℕ

@@ -2,11 +2,11 @@
 #![tactic(auto)]
 
 mod dates;
-mod files;
+mod marks;
 mod reports;
 mod verdicts;
 mod waits;
 
 pub use dates::is_date;
-pub use files::{Marks, marks_of};
+pub use marks::{Marks, marks_of};
 pub use reports::{Document, Filing, Imprint, report};

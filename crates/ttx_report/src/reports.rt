@@ -13,7 +13,7 @@ ghost use Rattle.ttx_source.specs.Services.{authored_ids, pages_of};
 ghost use Rattle.ttx_certificate.specs.Certificates.{fields_of};
 ghost use Rattle.ttx_witness.specs.laws.WaitLaws.{greatest as greatest_told};
 
-use crate::files::{Marks, Sizes, push_date, push_files, push_version};
+use crate::marks::{Marks, Sizes, push_date, push_files, push_version};
 use crate::verdicts::{push_decoders, push_numbers, push_verdict};
 use crate::waits::{greatest_of, push_others, push_waits};
 use std::alloc::{AllocError, Global};

@@ -14,8 +14,8 @@ use Rattle.ttx_monitor.specs.declared.ahead.Ahead.{Ahead}
 use Rattle.ttx_row_monitor.specs.RowFeeds.{Arrives, IsWithinByRows}
 use Rattle.ttx_row_monitor.specs.RowStanding.{RowStands, IsRowHeard}
 use Rattle.ttx_row_monitor.specs.declared.monitor.RowMonitor.{RowMonitor}
-use Rattle.ttx_row_monitor.specs.declared.stepping.RowStep.{RowStep}
-use Rattle.ttx_row_monitor.specs.declared.stepping.RowStep.TheVariants.{Heard, Broken, Slipped, End}
+use Rattle.ttx_row_monitor.specs.declared.row_step.RowStep.{RowStep}
+use Rattle.ttx_row_monitor.specs.declared.row_step.RowStep.TheVariants.{Heard, Broken, Slipped, End}
 
 -- the slot comes after a feed, and is the first of these bytes
 abbrev pub IsRowShift : Watched → List (List ℕ) → List ℕ → List ℕ → Option ℕ → Type 0

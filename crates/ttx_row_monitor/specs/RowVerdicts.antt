@@ -15,8 +15,8 @@ use Rattle.ttx_row_monitor.specs.RowStanding.{HasLost, RowStands, IsRowHeard}
 use Rattle.ttx_row_monitor.specs.RowStepping.{IsRowShift}
 use Rattle.ttx_row_monitor.specs.Laws.{AllReceivedByRows, IsSeenByRowsIn, IsShownByRowsIn}
 use Rattle.ttx_row_monitor.specs.declared.breach.RowBreach.{RowBreach}
-use Rattle.ttx_row_monitor.specs.declared.hearing.Heard.{Heard}
-use Rattle.ttx_row_monitor.specs.declared.hearing.Heard.TheVariants.{End, Broken, Slipped}
+use Rattle.ttx_row_monitor.specs.declared.feed_verdict.Heard.{Heard}
+use Rattle.ttx_row_monitor.specs.declared.feed_verdict.Heard.TheVariants.{End, Broken, Slipped}
 use Rattle.ttx_row_monitor.specs.declared.monitor.RowMonitor.{RowMonitor}
 use Rattle.ttx_row_monitor.specs.declared.verdict.RowVerdict.{RowVerdict}
 use Rattle.ttx_row_monitor.specs.declared.verdict.RowVerdict.TheVariants.{Unlike, Yes, No, Shifted}

@@ -2,17 +2,17 @@
 #![tactic(auto)]
 
 mod breach;
+mod feed_verdict;
 mod flags;
-mod hearing;
 pub mod laws;
 mod lines;
 mod monitor;
-mod muting;
-mod stepping;
-mod telling;
+mod muted_rows;
+mod row_step;
 mod verdict;
+mod verdict_text;
 
 pub use breach::RowBreach;
 pub use monitor::RowMonitor;
-pub use telling::monitor_rows;
 pub use verdict::RowVerdict;
+pub use verdict_text::monitor_rows;

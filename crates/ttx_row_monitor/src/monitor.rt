@@ -5,13 +5,13 @@ ghost use Rattle.ttx_row_monitor.specs.RowBreaches.{row_breach};
 
 use crate::breach::RowBreach;
 use crate::flags::flags_of;
-use crate::muting::{arrives, is_lost, muted};
+use crate::muted_rows::{arrives, is_lost, muted};
 use std::alloc::Global;
 use std::io::Read;
 use ttx_cycle::arrays::is_slot;
 use ttx_cycle::{Counted, Cycle};
 use ttx_files::FeedFault;
-use ttx_monitor::stepping::shift_at;
+use ttx_monitor::step::shift_at;
 use ttx_monitor::{Ahead, Breach, Monitor};
 use ttx_page::Page;
 use ttx_source::Service;

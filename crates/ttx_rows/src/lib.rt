@@ -5,7 +5,7 @@
 //! one. So a repeat count above 1 does not help it (`RowExamples.stored`).
 #![tactic(auto)]
 
-mod certifying;
+mod acceptance;
 pub mod laws;
 
-pub use certifying::{certify_by_rows, certify_late_by_rows};
+pub use acceptance::{certify_by_rows, certify_late_by_rows};

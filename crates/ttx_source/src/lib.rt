@@ -9,7 +9,7 @@ pub mod keys;
 pub mod links;
 pub mod page_table;
 pub mod promises;
-pub mod reading;
+pub mod reader;
 pub mod rows;
 pub mod services;
 pub mod texts;
@@ -17,5 +17,5 @@ pub mod values;
 
 pub use faults::{SourceError, SourceFault};
 pub use promises::{Promise, promises_of_table, read_promises, read_stays, stays_of_table};
-pub use reading::{read_service, service_of_table};
+pub use reader::{read_service, service_of_table};
 pub use services::Service;

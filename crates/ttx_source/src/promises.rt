@@ -10,7 +10,7 @@ ghost use Rattle.ttx_source.specs.PromiseViews.{promise_view, promise_list};
 use crate::faults::SourceError;
 use crate::key_faults::{KeyFault, ReadFault};
 use crate::keys::Key;
-use crate::reading::page_tables;
+use crate::reader::page_tables;
 use crate::values::{member, table_of, within};
 use std::alloc::{AllocError, Global};
 use std::num::saturating_f64_to_u64;

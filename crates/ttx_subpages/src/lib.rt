@@ -2,9 +2,9 @@
 //! page only where it ends show each subpage in turn, and whole.
 #![tactic(auto)]
 
-mod certifying;
-mod files;
+mod acceptance;
 mod intervals;
+mod judge;
 mod lack;
 mod lacks;
 pub mod laws;
@@ -16,9 +16,9 @@ mod stays;
 mod verdict;
 mod wait_lines;
 
-pub use certifying::certify_numbers;
-pub use files::ByNumber;
+pub use acceptance::certify_numbers;
 pub use intervals::longest_interval;
+pub use judge::ByNumber;
 pub use lack::Lack;
 pub use lacks::first_lack;
 pub use number_lines::numbers_verdict_text;

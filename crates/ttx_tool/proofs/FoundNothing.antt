@@ -7,7 +7,7 @@ use Rattle.ttx_source.specs.Services.{ServiceFields, pages_of}
 use Rattle.ttx_tool.specs.Find.{IsVerdictLine, TellsNo, TellsVerdict}
 use Rattle.ttx_witness.specs.Coverage.{IsCertificate}
 use Rattle.ttx_certificate.specs.Entries.{CertificateFields, certificate_at}
-use Rattle.ttx_witness.specs.finding.Finding.{IsFoundFor}
+use Rattle.ttx_witness.specs.search.Finding.{IsFoundFor}
 
 module _ (cycle : List (List ℕ)) (service : ServiceFields) (repeat : ℕ) (class : Class) (w : CertificateFields)
     (is : IsCertificate (certificate_at w))

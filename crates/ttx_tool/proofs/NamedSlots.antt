@@ -26,7 +26,7 @@ use Rattle.ttx_page.specs.declared.item.Item.{Item}
 use Rattle.ttx_page.specs.declared.item.Item.TheVariants.{Head as TheHead, Row as TheRow, Links as TheLinks}
 use Rattle.ttx_tool.proofs.CertificateLengths.{named_in, certificate_length}
 use Rattle.ttx_witness.specs.Coverage.{IsSureStart}
-use Rattle.ttx_witness.specs.finding.Finding.{IsFoundFor}
+use Rattle.ttx_witness.specs.search.Finding.{IsFoundFor}
 
 -- ---- a slot sends one item of one page
 

@@ -25,7 +25,7 @@ use Rattle.ttx_certificate.specs.CertificateReading.{read_text}
 use Rattle.ttx_certificate.specs.CertificateTexts.{certificate_text}
 use Rattle.ttx_witness.specs.Coverage.{Accepts}
 use Rattle.ttx_certificate.specs.Entries.{CertificateFields, certificate_at}
-use Rattle.ttx_witness.specs.finding.Finding.{IsFoundFor}
+use Rattle.ttx_witness.specs.search.Finding.{IsFoundFor}
 
 -- where there is a deadline the status is 0
 deadline_told : (slots : List (List ℕ)) (service : ServiceFields) (w : CertificateFields) (answer : Option ℕ) (deadline : ℕ)

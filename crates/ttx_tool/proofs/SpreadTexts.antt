@@ -6,7 +6,7 @@ use Rattle.std.specs.Prelude.{String}
 use Rattle.ttx_carousel.specs.Planning.{AnswersStays}
 use Rattle.ttx_carousel.specs.declared.faults.StayFault.{StayFault}
 use Rattle.ttx_cycle.specs.declared.cycles.Cycle.{Cycle}
-use Rattle.ttx_promise.specs.declared.planning.Viewers.{Viewers}
+use Rattle.ttx_promise.specs.declared.promised_plan.Viewers.{Viewers}
 use Rattle.ttx_source.specs.Promises.{PromiseFields}
 use Rattle.ttx_source.specs.Services.{ServiceFields}
 use Rattle.ttx_files.specs.declared.faults.FilesFault.TheVariants as files

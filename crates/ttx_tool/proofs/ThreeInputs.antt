@@ -7,7 +7,7 @@ use Rattle.ttx_source.specs.Services.{ServiceFields, pages_of}
 use Rattle.ttx_tool.specs.Refute.{TellsAnswer, IsRefutation}
 use Rattle.ttx_tool.specs.declared.commands.refute.Asked.{Asked}
 use Rattle.ttx_certificate.specs.Entries.{CertificateFields}
-use Rattle.ttx_witness.specs.finding.Finding.{IsSentUnchanged, CanBeAccepted}
+use Rattle.ttx_witness.specs.search.Finding.{IsSentUnchanged, CanBeAccepted}
 
 -- three facts of an answer
 pub all_three : {A E : Type 0} (P Q R T : A → Type 0) (r : Result A E) → ((a : A) → P a → Q a → R a → T a) → IfOk r P → IfOk r Q → IfOk r R → IfOk r T

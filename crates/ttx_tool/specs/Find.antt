@@ -26,7 +26,7 @@ use Rattle.ttx_tool.specs.declared.faults.ToolFault.{ToolFault}
 use Rattle.ttx_tool.specs.declared.faults.ToolFault.TheVariants.{Files}
 use Rattle.ttx_certificate.specs.CertificateTexts.{certificate_text}
 use Rattle.ttx_certificate.specs.Entries.{CertificateFields, IsCertificateFields, certificate_at}
-use Rattle.ttx_witness.specs.finding.Finding.{IsFoundFor}
+use Rattle.ttx_witness.specs.search.Finding.{IsFoundFor}
 use Rattle.ttx_witness.specs.declared.faults.reason.Reason.{Reason}
 
 abbrev pub found_line : ℕ → List ℕ

@@ -18,7 +18,7 @@ use Rattle.ttx_certify.specs.VerdictLines.{verdict_line}
 use Rattle.ttx_certify.specs.declared.verdict.Verdict.{Verdict}
 use Rattle.ttx_certify.specs.declared.verdict.Verdict.TheVariants.{Yes, No}
 use Rattle.ttx_deadline.specs.Deadlines.{IsFoundWith}
-use Rattle.ttx_deadline.specs.declared.finding.Asked.{Asked}
+use Rattle.ttx_deadline.specs.declared.asked_deadlines.Asked.{Asked}
 use Rattle.ttx_tool.specs.Find.{WritesDeadline, IsNoFinding}
 use Rattle.ttx_tool.specs.declared.faults.ToolFault.{ToolFault}
 use Rattle.ttx_tool.specs.declared.faults.ToolFault.TheVariants.{Files}

@@ -19,8 +19,8 @@ use Rattle.ttx_monitor.specs.EventLines.{in_lines}
 use Rattle.ttx_monitor.specs.FeedReports.{ReportsFeed}
 use Rattle.ttx_monitor.specs.Wordings.{Words}
 use Rattle.ttx_monitor.specs.declared.asked.Asked.{Asked}
-use Rattle.ttx_monitor.specs.declared.following.FollowFault.{FollowFault}
-use Rattle.ttx_monitor.specs.declared.following.FollowFault.TheVariants as follow
+use Rattle.ttx_monitor.specs.declared.live_feed.FollowFault.{FollowFault}
+use Rattle.ttx_monitor.specs.declared.live_feed.FollowFault.TheVariants as follow
 use Rattle.ttx_monitor.specs.declared.verdict.FeedVerdict.{FeedVerdict}
 use Rattle.ttx_monitor.specs.declared.verdict.FeedVerdict.TheVariants.{Yes}
 use Rattle.ttx_source.specs.Services.{ServiceFields, pages_of}

@@ -31,7 +31,7 @@ use Rattle.ttx_tool.specs.declared.faults.ToolFault.{ToolFault}
 use Rattle.ttx_tool.specs.declared.faults.ToolFault.TheVariants.{Files, Class}
 use Rattle.ttx_digits.specs.PageIds.{id_text}
 use Rattle.ttx_certificate.specs.Entries.{CertificateFields, certificate_at}
-use Rattle.ttx_witness.specs.finding.Finding.{IsSentUnchanged, CanBeAccepted}
+use Rattle.ttx_witness.specs.search.Finding.{IsSentUnchanged, CanBeAccepted}
 
 -- the page, the first slot and how many, and how many wrong bits and choices
 abbrev pub counter_line : Id → CounterRun → List ℕ

@@ -24,7 +24,7 @@ use Rattle.ttx_plan.specs.declared.faults.PlanFault.TheVariants as plan
 use Rattle.ttx_promise.specs.PromiseLines.{late_lines}
 use Rattle.ttx_promise.specs.Views.{late_view}
 use Rattle.ttx_promise.specs.declared.faults.PromiseFault.TheVariants as promise
-use Rattle.ttx_promise.specs.declared.planning.Viewers.{Viewers}
+use Rattle.ttx_promise.specs.declared.promised_plan.Viewers.{Viewers}
 use Rattle.ttx_source.specs.Faults.{fault_of}
 use Rattle.ttx_source.specs.PromiseViews.{promise_view}
 use Rattle.ttx_source.specs.Promises.{PromiseFields, read_promises, read_stays}

@@ -22,7 +22,7 @@ pub fn found_is_certified()
 pub fn late_is_certified()
     ensures { LateIsCertified }
 {
-    ttx_plan::following::late_cycles_are_followed();
+    ttx_plan::late_cycles::late_cycles_are_followed();
     ttx_witness::certificate_laws::written_texts_are_read();
 }
 

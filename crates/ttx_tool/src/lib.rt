@@ -6,7 +6,7 @@ pub mod commands;
 pub mod faults;
 pub mod laws;
 mod lines;
-mod stepping;
+mod receiver_steps;
 mod texts;
 mod unlike_views;
 mod views;

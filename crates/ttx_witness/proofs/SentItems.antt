@@ -8,4 +8,4 @@ pub use Rattle.ttx_witness.proofs.lemmas.sent.NumbersSent.{some_of, sends_some}
 pub use Rattle.ttx_witness.proofs.lemmas.sent.ItemPlaces.{placed_item}
 pub use Rattle.ttx_witness.proofs.lemmas.sent.AllLists.{all_by_place, place_below}
 pub use Rattle.ttx_witness.proofs.lemmas.sent.RunLengths.{some_run}
-pub use Rattle.ttx_witness.proofs.lemmas.finding.DueItems.{item_one}
+pub use Rattle.ttx_witness.proofs.lemmas.search.DueItems.{item_one}

@@ -3,6 +3,6 @@ pub mod GrownLists
 pub mod runs
 pub mod sent
 pub mod faults
-pub mod finding
-pub mod waiting
+pub mod search
+pub mod waits
 pub mod laws

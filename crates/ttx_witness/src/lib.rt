@@ -19,27 +19,27 @@
 #![tactic(auto)]
 
 mod faults;
-mod finding;
 pub mod laws;
 mod runs;
+mod search;
 mod sent;
-mod waiting;
+mod waits;
 
 pub use faults::bad_slots::bad_slot;
-pub use faults::comparing::{Check, is_wrong, same_links};
 pub use faults::other_subpages::{OtherSubpages, first_of, none_told, note_slot};
 pub use faults::page_faults::{fault_of, page_fault};
 pub use faults::reason::{PageFault, Reason};
+pub use faults::wrong_slots::{Check, is_wrong, same_links};
 pub use faults::{first_slots, subcodes};
-pub use finding::certificates::{Found, faults_in, find, find_for, find_in};
-pub use finding::survey::Survey;
 pub use laws::{cycle_laws, fault_laws, judging_laws, late_laws, sure_items, wait_laws};
-pub use runs::confirming::{Progress, late_at_end};
+pub use runs::confirmation::{Progress, late_at_end};
 pub use runs::named_starts;
 pub use runs::one_item::{judge_item, nothing_confirmed};
 pub use runs::transmissions::Transmission;
+pub use search::certificates::{Found, faults_in, find, find_for, find_in};
+pub use search::survey::Survey;
 pub use sent::collected::Collected;
-pub use sent::collecting::{collect, collect_after};
+pub use sent::collection::{collect, collect_after};
 pub use sent::one_slot;
 pub use sent::owners::{Owner, note_owner};
 pub use sent::packets::{header_in, heads_page, mine_after, row_in, sends};
@@ -49,6 +49,6 @@ pub use ttx_certificate::{
     CertFault, Certificate, Entry, NoMemory, certificate_laws, digit, limit, push_id, push_item,
     push_numbers, read_certificate, write_certificate,
 };
-pub use waiting::item_waits::item_waits;
-pub use waiting::page_waits::waits;
-pub use waiting::wait::{ItemWait, Losses, OwnWait, PageWait, Wait};
+pub use waits::item_waits::item_waits;
+pub use waits::page_waits::waits;
+pub use waits::wait::{ItemWait, Losses, OwnWait, PageWait, Wait};

@@ -1,6 +1,6 @@
 //! Transmissions of one item as numbers, the runs they make, and the starts of runs. Pages and packets are not known here.
 
-pub mod confirming;
+pub mod confirmation;
 pub mod named_starts;
 pub mod one_item;
 pub mod ring;

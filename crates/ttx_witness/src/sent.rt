@@ -1,7 +1,7 @@
 //! What one period of a cycle sends of the items of pages.
 
 pub mod collected;
-pub mod collecting;
+pub mod collection;
 pub mod one_slot;
 pub mod owners;
 pub mod packets;

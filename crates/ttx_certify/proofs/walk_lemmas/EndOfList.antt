@@ -7,7 +7,7 @@ use Rattle.ttx_page.specs.Streams.{run_length}
 use Rattle.ttx_page.specs.declared.item.Item.{Item}
 use Rattle.ttx_witness.specs.runs.Transmissions.{runs}
 use Rattle.ttx_witness.specs.runs.Confirming.{after_runs, not_begun}
-use Rattle.ttx_witness.specs.declared.runs.confirming.Progress.{Progress}
+use Rattle.ttx_witness.specs.declared.runs.confirmation.Progress.{Progress}
 use Rattle.ttx_witness.specs.Coverage.{Certificate, limit}
 use Rattle.ttx_witness.specs.laws.CycleLaws.{progress_of}
 use Rattle.ttx_witness.specs.sent.ItemTransmissions.{sent_in}

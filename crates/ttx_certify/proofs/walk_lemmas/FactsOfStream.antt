@@ -15,7 +15,7 @@ use Rattle.ttx_witness.specs.faults.OtherSubpages.{place, AreSubcodes, AreAllSub
 use Rattle.ttx_witness.proofs.FirstFaults.{tells_same, first_slots, all_sent, other_is, first_all}
 use Rattle.ttx_witness.specs.faults.FirstSlots.{SentBelow}
 use Rattle.ttx_certify.specs.declared.walks.page_facts.Facts.{Facts}
-use Rattle.ttx_certify.specs.declared.walks.ending.EndedWalk.{EndedWalk}
+use Rattle.ttx_certify.specs.declared.walks.page_results.EndedWalk.{EndedWalk}
 use Rattle.ttx_certify.specs.walks.PageFacts.{AreFacts}
 use Rattle.ttx_certify.specs.walks.Passing.{IsEnded, ended_pages, ended_certificate}
 

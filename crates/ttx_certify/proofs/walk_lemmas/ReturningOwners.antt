@@ -12,7 +12,7 @@ use Rattle.ttx_certify.specs.declared.walks.page_facts.Facts.{Facts}
 use Rattle.ttx_witness.specs.Elements.{HoldsAt}
 use Rattle.ttx_certify.specs.walks.PageFacts.{AreFacts}
 use Rattle.ttx_certify.specs.walks.Passing.{AreKept, walk_pages, walk_certificate}
-use Rattle.ttx_certify.specs.declared.walks.passing.Walk.{Walk}
+use Rattle.ttx_certify.specs.declared.walks.passes.Walk.{Walk}
 
 -- a scan has met a header and no longer depends on its entry, or has met none
 abbrev Forgets : Option PageOwner → Option PageOwner → Option PageOwner → Type 0

@@ -8,7 +8,7 @@ use Rattle.ttx_page.specs.Streams.{run_length}
 use Rattle.ttx_page.specs.declared.item.Item.{Item}
 use Rattle.ttx_witness.specs.Coverage.{Certificate}
 use Rattle.ttx_witness.specs.laws.CycleLaws.{progress_of}
-use Rattle.ttx_witness.specs.declared.runs.confirming.Progress.{Progress}
+use Rattle.ttx_witness.specs.declared.runs.confirmation.Progress.{Progress}
 
 abbrev pub IsIdle : Certificate → Page → Item → Type 0
 IsIdle w p item = needed p item ≡ true → 0 < length (w.starts p.id item) → ⊥

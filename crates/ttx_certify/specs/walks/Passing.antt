@@ -33,9 +33,9 @@ use Rattle.ttx_witness.specs.declared.sent.owners.Owner.{Owner}
 use Rattle.ttx_certify.specs.declared.walks.page_facts.Facts.{Facts}
 use Rattle.ttx_certify.specs.declared.walks.sent_slots.SentSlots.{SentSlots}
 use Rattle.ttx_certify.specs.declared.walks.other_headers.OtherHeaders.{OtherHeaders}
-use Rattle.ttx_certify.specs.declared.walks.passing.Walk.{Walk}
-use Rattle.ttx_certify.specs.declared.walks.passing.Second.{Second}
-use Rattle.ttx_certify.specs.declared.walks.ending.EndedWalk.{EndedWalk}
+use Rattle.ttx_certify.specs.declared.walks.passes.Walk.{Walk}
+use Rattle.ttx_certify.specs.declared.walks.passes.Second.{Second}
+use Rattle.ttx_certify.specs.declared.walks.page_results.EndedWalk.{EndedWalk}
 
 abbrev pub walk_pages : Walk → List Page
 walk_pages walk = map page_of walk.pages.now

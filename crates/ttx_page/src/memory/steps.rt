@@ -8,7 +8,7 @@ ghost use Rattle.ttx_page.specs.Receivers.{stored_row, with_row, with_storing, w
 ghost use Rattle.ttx_page.specs.Views.{memory_of};
 
 use super::PageMemory;
-use super::making::{blank_rows, same_links};
+use super::constructors::{blank_rows, same_links};
 use ttx_code::strip;
 use ttx_header::{Control, Header};
 use ttx_links::{Links, Target};

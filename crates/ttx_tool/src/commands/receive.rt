@@ -10,7 +10,7 @@ ghost use Rattle.ttx_tool.specs.Receive.{tuned_as, tuned_to, held_by, Receives};
 
 use super::reports::write_text;
 use crate::faults::ToolFault;
-use crate::stepping::hear_file;
+use crate::receiver_steps::hear_file;
 use crate::views::view_lines;
 use std::alloc::Global;
 use std::io::{Read, Write};

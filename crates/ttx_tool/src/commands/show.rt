@@ -13,7 +13,7 @@ ghost use Rattle.ttx_tool.specs.Show.{no_page_line, shown_text, shown_status, Sh
 
 use super::reports::write_text;
 use crate::faults::ToolFault;
-use crate::stepping::hear_file;
+use crate::receiver_steps::hear_file;
 use std::alloc::{AllocError, Global};
 use std::io::{Read, Write};
 use ttx_arguments::{Look, ReceiverKind, Tuning};

@@ -21,8 +21,8 @@ use Rattle.ttx_page.specs.Streams.{Stream, heads, heads_page, heads_matched, car
 use Rattle.ttx_page.specs.Steady.{erases_page, IsLikeHead, RowIsRight, LinksAreRight}
 use Rattle.ttx_witness.specs.sent.Collected.{item_number}
 use Rattle.ttx_witness.specs.sent.ItemTransmissions.{PageOwner}
-use Rattle.ttx_witness.specs.declared.faults.comparing.Check.{Check}
-use Rattle.ttx_witness.specs.declared.faults.comparing.Check.TheVariants.{EraseBit, Head as CheckHead, Row as CheckRow, Links as CheckLinks}
+use Rattle.ttx_witness.specs.declared.faults.wrong_slots.Check.{Check}
+use Rattle.ttx_witness.specs.declared.faults.wrong_slots.Check.TheVariants.{EraseBit, Head as CheckHead, Row as CheckRow, Links as CheckLinks}
 
 -- the packet is this page header
 pub record HoldsHeader (header : HeaderFields) (packet : Packet) : Type 0 where

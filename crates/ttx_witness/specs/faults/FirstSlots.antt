@@ -20,8 +20,8 @@ use Rattle.ttx_page.specs.declared.item.Item.TheVariants.{Head as TheHead, Row a
 use Rattle.ttx_witness.specs.faults.Comparing.{is_mine, compared_item, sends, IsWrong}
 use Rattle.ttx_witness.specs.sent.Collected.{item_number}
 use Rattle.ttx_witness.specs.sent.ItemTransmissions.{PageOwner, owner_scan}
-use Rattle.ttx_witness.specs.declared.faults.comparing.Check.{Check}
-use Rattle.ttx_witness.specs.declared.faults.comparing.Check.TheVariants.{EraseBit, Head as CheckHead, Row as CheckRow, Links as CheckLinks}
+use Rattle.ttx_witness.specs.declared.faults.wrong_slots.Check.{Check}
+use Rattle.ttx_witness.specs.declared.faults.wrong_slots.Check.TheVariants.{EraseBit, Head as CheckHead, Row as CheckRow, Links as CheckLinks}
 use Rattle.ttx_witness.specs.declared.faults.first_slots.FirstSlots.{FirstSlots}
 
 -- the earlier of two slots; None stands for no slot

@@ -12,7 +12,7 @@ use Rattle.ttx_page.specs.declared.class.Class.{Class}
 use Rattle.ttx_page.specs.declared.class.Class.TheVariants.{Clearing}
 use Rattle.ttx_page.specs.Streams.{repeated, IsOwned, IsSure}
 use Rattle.ttx_witness.specs.Coverage.{IsSureStart}
-use Rattle.ttx_witness.specs.finding.Finding.{IsSentUnchanged, CanBeAccepted}
+use Rattle.ttx_witness.specs.search.Finding.{IsSentUnchanged, CanBeAccepted}
 
 abbrev pub HasSureStart : List (List ℕ) → Id → ℕ → ℕ → Item → Type 0
 HasSureStart cycle page lines repeat item = (start : ℕ) × IsSureStart cycle page lines repeat item start

@@ -10,7 +10,7 @@ use Rattle.std.specs.Prelude.{ℕ, ◌+◌, ◌-◌, ℤ, pos, ◌+ℤ◌, Bool,
 use Rattle.std.specs.Prelude.{◌==◌, slice_index_or, is_none, int_lt, int_le}
 use Rattle.ttx_witness.specs.runs.Transmissions.{Run}
 pub use Rattle.ttx_certificate.specs.NamedStarts.{Rising}
-pub use Rattle.ttx_witness.specs.declared.runs.confirming.Progress.{Progress}
+pub use Rattle.ttx_witness.specs.declared.runs.confirmation.Progress.{Progress}
 
 abbrev pub same_slot : ℤ → ℤ → Bool
 same_slot a b = int_le a b && int_le b a

@@ -9,8 +9,8 @@ ghost use Rattle.ttx_witness.specs.faults.Comparing.{IsWrong};
 ghost use Rattle.ttx_witness.specs.faults.Faults.{AreFirst, IsPageFault};
 ghost use Rattle.ttx_witness.specs.faults.FirstSlots.{earlier, noted, RowWrong, IsAfter, none_yet};
 
-use crate::faults::comparing::{Check, is_wrong};
 use crate::faults::reason::Reason;
+use crate::faults::wrong_slots::{Check, is_wrong};
 use ttx_header::PageId;
 use ttx_page::{Item, Page, RowNumber, needed};
 

@@ -6,7 +6,7 @@ ghost use Rattle.ttx_witness.specs.runs.Transmissions.{runs};
 ghost use Rattle.ttx_witness.specs.runs.Confirming.{after_runs, not_begun};
 ghost use Rattle.ttx_witness.specs.runs.Tracks.{listed, IsTrack, IsWithin};
 
-use crate::runs::confirming::{Progress, confirm};
+use crate::runs::confirmation::{Progress, confirm};
 use crate::runs::transmissions::{Run, Transmission};
 use crate::runs::window::{Recent, push, push_further};
 

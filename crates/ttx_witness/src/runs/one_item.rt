@@ -7,7 +7,7 @@ ghost use Rattle.ttx_witness.specs.runs.Confirming.{after_runs, not_begun};
 ghost use Rattle.ttx_witness.specs.runs.SureStarts.{IsFound};
 ghost use Rattle.ttx_witness.specs.runs.Tracks.{held_in, IsRecent, IsTrack, IsWithin};
 
-use crate::runs::confirming::Progress;
+use crate::runs::confirmation::Progress;
 use crate::runs::named_starts::{self, Track};
 use crate::runs::ring::empty_ring;
 use crate::runs::sure_starts::{self, Search, SureRuns};

@@ -1,6 +1,6 @@
 use Rattle.std.proofs.Common.{◌≡◌, ◌++◌, drop, map}
 use Rattle.ttx_page.specs.Views.{page_of}
-use Rattle.ttx_check.specs.Counting.{times_in}
+use Rattle.ttx_tallies.specs.Tallies.{times_in}
 use Rattle.ttx_check.specs.PageWarnings.{pages_from}
 use Rattle.ttx_check.proofs.page_warnings.push_pages.Given as goal
 

@@ -1,5 +1,5 @@
 use Rattle.std.proofs.Common.{◌∙◌, ◌++◌, ap}
-use Rattle.ttx_check.specs.Counting.{times_in}
+use Rattle.ttx_tallies.specs.Tallies.{times_in}
 use Rattle.ttx_check.specs.Warnings.{warnings_by}
 use Rattle.ttx_check.proofs.Counted.{warnings_same}
 use Rattle.ttx_check.proofs.service_warnings.warnings_of.Goals as goal

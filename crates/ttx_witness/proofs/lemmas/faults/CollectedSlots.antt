@@ -18,7 +18,7 @@ use Rattle.ttx_witness.specs.sent.ItemTransmissions.{sent_in}
 use Rattle.ttx_witness.specs.declared.faults.first_slots.FirstSlots.{FirstSlots}
 use Rattle.ttx_witness.specs.faults.FirstSlots.{IsAfter, AreFirstTaken, TakenBelow}
 use Rattle.ttx_witness.proofs.lemmas.WholeNumbers.{abs_is}
-use Rattle.ttx_witness.proofs.lemmas.finding.DueItems.{item_one}
+use Rattle.ttx_witness.proofs.lemmas.search.DueItems.{item_one}
 use Rattle.ttx_witness.proofs.lemmas.runs.OneByOne.{take_more}
 use Rattle.ttx_witness.proofs.lemmas.sent.CycleTransmissions.{sent_told}
 use Rattle.ttx_witness.proofs.lemmas.faults.FirstSlots.{taken_more, taken_same}

@@ -17,8 +17,8 @@ use Rattle.ttx_page.specs.Steady.{HasHeader, OtherSubpageAt, ErasedAt, HeadDiffe
 use Rattle.ttx_witness.specs.sent.Collected.{IsItem}
 use Rattle.ttx_witness.specs.sent.ItemTransmissions.{PageOwner, owner_scan}
 use Rattle.ttx_witness.specs.faults.Comparing.{is_mine, sends, compared_item, IsWrong, WrongAt}
-use Rattle.ttx_witness.specs.declared.faults.comparing.Check.{Check}
-use Rattle.ttx_witness.specs.declared.faults.comparing.Check.TheVariants.{EraseBit, Head as CheckHead, Row as CheckRow, Links as CheckLinks}
+use Rattle.ttx_witness.specs.declared.faults.wrong_slots.Check.{Check}
+use Rattle.ttx_witness.specs.declared.faults.wrong_slots.Check.TheVariants.{EraseBit, Head as CheckHead, Row as CheckRow, Links as CheckLinks}
 use Rattle.ttx_witness.specs.faults.Faults.{Never, TellsFirst, AreFirst}
 use Rattle.ttx_witness.specs.declared.faults.first_slots.FirstSlots.{FirstSlots}
 use Rattle.ttx_witness.specs.faults.FirstSlots.{earlier, IsNoted, RowWrong, IsAfter, none_yet, IsLeastOf, TakesWrong, TakesWrongRow, AreFirstTaken, SentBelow}

@@ -13,7 +13,7 @@ use Rattle.ttx_page.specs.Streams.{Stream, repeated, heads, heads_page, heads_ma
 use Rattle.ttx_page.specs.Steady.{HasHeader}
 use Rattle.ttx_witness.specs.sent.ItemTransmissions.{PageOwner, owner_after, owner_scan, tainted_by, entry_owner}
 use Rattle.ttx_witness.specs.faults.Comparing.{is_mine, mine_after, sends, compared_item, IsWrong, WrongAt, OtherHeaderAt, heads_other_subpage}
-use Rattle.ttx_witness.specs.declared.faults.comparing.Check.{Check}
+use Rattle.ttx_witness.specs.declared.faults.wrong_slots.Check.{Check}
 use Rattle.ttx_witness.specs.faults.Faults.{Never}
 use Rattle.ttx_witness.specs.faults.FirstSlots.{SentBelow}
 use Rattle.ttx_witness.proofs.lemmas.runs.EveryPeriod.{everywhere}

@@ -19,7 +19,7 @@ use Rattle.ttx_page.specs.Streams.{Stream, turned, repeated, run_length, heads_p
 use Rattle.ttx_witness.specs.runs.Transmissions.{Transmission, Run, later, further, windows, run_of, runs, all_sure}
 use Rattle.ttx_witness.specs.runs.Confirming.{Rising}
 use Rattle.ttx_witness.specs.Coverage.{Certificate, IsSureStart, IsCovered, IsLeftOut}
-use Rattle.ttx_witness.specs.finding.Finding.{starts_of}
+use Rattle.ttx_witness.specs.search.Finding.{starts_of}
 use Rattle.ttx_witness.specs.runs.Repeating.{IsSentAt, AreSent}
 use Rattle.ttx_witness.specs.runs.SureStarts.{sure_runs, sure_starts}
 use Rattle.ttx_witness.specs.sent.ItemTransmissions.{sent_in}

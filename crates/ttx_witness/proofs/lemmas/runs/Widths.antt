@@ -10,7 +10,7 @@ use Rattle.ttx_witness.specs.runs.Tracks.{IsWithin}
 use Rattle.ttx_page.specs.Streams.{run_length}
 use Rattle.ttx_page.specs.declared.item.Item.{Item}
 use Rattle.ttx_page.specs.declared.item.Item.TheVariants.{Head as TheHead, Row as TheRow, Links as TheLinks}
-use Rattle.ttx_witness.specs.finding.Finding.{limit_of}
+use Rattle.ttx_witness.specs.search.Finding.{limit_of}
 use Rattle.ttx_witness.proofs.lemmas.runs.AfterThePeriod.{within_more, turn_within}
 
 all_append : {A : Type 0} (P : A → Type 0) (xs ys : List A) → AllByRecursion P xs → AllByRecursion P ys → AllByRecursion P (xs ++ ys)

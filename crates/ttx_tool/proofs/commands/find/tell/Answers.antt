@@ -6,7 +6,7 @@ use Rattle.ttx_cycle.specs.Bounded.{most_bytes}
 use Rattle.ttx_cycle.specs.Cycles.{slots_of, slots_of-IsCycle}
 use Rattle.ttx_source.specs.Services.{pages_of}
 use Rattle.ttx_certificate.specs.Certificates.{fields_of, certificate_of}
-use Rattle.ttx_witness.specs.finding.Finding.{IsFoundFor}
+use Rattle.ttx_witness.specs.search.Finding.{IsFoundFor}
 use Rattle.ttx_tool.specs.Find.{TellsFound}
 use Rattle.ttx_tool.proofs.FoundNothing.{says_no}
 use Rattle.ttx_tool.proofs.NamedSlots.{found_is_short}

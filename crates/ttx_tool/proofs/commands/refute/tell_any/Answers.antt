@@ -12,7 +12,7 @@ use Rattle.ttx_tool.specs.Refute.{said_counter, said_none, saved, IsRefutation}
 use Rattle.ttx_tool.proofs.ServiceIds.{distinct_ids}
 use Rattle.ttx_tool.proofs.ThreeInputs.{all_three, refutation}
 use Rattle.ttx_certificate.specs.Certificates.{fields_of, certificate_of}
-use Rattle.ttx_witness.specs.finding.Finding.{IsSentUnchanged, CanBeAccepted}
+use Rattle.ttx_witness.specs.search.Finding.{IsSentUnchanged, CanBeAccepted}
 use Rattle.ttx_tool.proofs.commands.refute.tell_any.Goals as goal
 
 pub refute-requires-clause-distinct : goal.refute-requires-clause-distinct

@@ -1,5 +1,0 @@
-use Rattle.ttx_archive.proofs.Found.{AreOthers}
-use Rattle.ttx_archive.proofs.finding.find_text.Given as goal
-
-abbrev pub invariant-loop-filed : goal.invariant-loop-filed
-invariant-loop-filed l = AreOthers l.archive l.digest l.filed-index

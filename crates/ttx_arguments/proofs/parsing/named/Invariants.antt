@@ -1,6 +1,0 @@
-use Rattle.std.proofs.Common.{◌≡◌, drop}
-use Rattle.ttx_arguments.specs.Arguments.{named_in}
-use Rattle.ttx_arguments.proofs.parsing.named.Given as goal
-
-abbrev pub invariant-loop-command : goal.invariant-loop-command
-invariant-loop-command l = named_in l.name l.commands ≡ named_in l.name (drop l.command-index l.commands)

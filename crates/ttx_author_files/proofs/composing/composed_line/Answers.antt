@@ -1,5 +1,0 @@
-use Rattle.std.proofs.Common.{rules, append_assoc}
-use Rattle.ttx_author_files.proofs.composing.composed_line.Goals as goal
-
-pub returns : goal.returns
-returns c = search (rules, append_assoc)

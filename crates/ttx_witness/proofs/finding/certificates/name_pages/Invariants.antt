@@ -1,6 +1,0 @@
-use Rattle.std.proofs.Common.{◌*◌}
-use Rattle.ttx_witness.specs.finding.Surveys.{AreNamedIn}
-use Rattle.ttx_witness.proofs.finding.certificates.name_pages.Given as goal
-
-abbrev pub invariant-loop-index : goal.invariant-loop-index
-invariant-loop-index l = record { named : AreNamedIn l.survey (26 * l.index) l.entries.items l.least }

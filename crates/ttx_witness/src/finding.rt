@@ -1,5 +1,0 @@
-//! Finding certificates.
-
-pub mod certificates;
-pub mod naming;
-pub mod survey;

@@ -1,0 +1,5 @@
+//! Finding certificates.
+
+pub mod certificates;
+pub mod start_names;
+pub mod survey;
