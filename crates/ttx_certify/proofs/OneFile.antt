@@ -47,6 +47,6 @@ passes_are_files a c d verdict line h =
         exact = walked_same w.second (let some = w.second_is.is_cycle.some in omega arith) pages (certificate_at h.w) verdict
             (subst (λ x. IsWalkVerdict x w.second pages (certificate_at h.w) verdict) same w.exact);
         seen = w.seen;
-        line_is = h.line_is;
+        line_is = h.text_is;
       };
     }

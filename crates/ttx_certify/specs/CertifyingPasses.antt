@@ -2,11 +2,13 @@
 --
 --   IsRefusedCycle  why the first faulty one of two packet files is refused
 --   WalkedFiles     the verdict of a walk over two packet files
---   CertifiesTwice  the verdict on four inputs, and its line
+--   IsAnsweredTwice the verdict on four inputs, and its text
+--   CertifiesTwice  the same with the line of the verdict
 --   IsRefusedTwice  why four inputs are refused
 --   WalksFiles      the verdict on two packet files, with the pages of a service and a certificate
---   JudgesPasses    the verdict on four inputs, and its line, or why they are refused
---   CertifiesPasses what has been written, for each answer
+--   JudgesPasses    the verdict on four inputs, and its text, or why they are refused
+--   AnswersPasses   what has been written, for each answer
+--   CertifiesPasses the same with the line of the verdict
 --   PassesAreFiles  the law that two readings of one file have the verdict of the file
 use Rattle.std.specs.Prelude.{◌≡◌, ◌⊎◌, ℕ, List, length, string_bytes, ⊤, Option, Result, Ok, Err}
 use Rattle.ttx_cycle.specs.Files.{IsPacketFile}
@@ -40,14 +42,21 @@ pub record WalkedFiles (a b : List ℕ) (pages : List Page) (w : Certificate) (v
   pub exact : IsWalkVerdict first second pages w verdict
   pub seen : Means second pages w verdict
 
--- the verdict on two packet files, the pages of the service and the certificate, and its line
-pub record CertifiesTwice (a b c d : List ℕ) (verdict : Verdict) (line : List ℕ) : Type 0 where
+-- how a verdict is worded, by the certificate and the number of pages
+abbrev pub Words : Type 0
+Words = CertificateFields → ℕ → Verdict → List ℕ
+
+-- the verdict on two packet files, the pages of the service and the certificate, and its text
+pub record IsAnsweredTwice (words : Words) (a b c d : List ℕ) (verdict : Verdict) (text : List ℕ) : Type 0 where
   pub service : ServiceFields
   pub w : CertificateFields
   pub service_is : IsServiceText c service
   pub certificate_is : IsCertificateText d w
   pub walked : WalkedFiles a b (pages_of service) (certificate_at w) verdict
-  pub line_is : line ≡ verdict_line w (length service.pages) verdict
+  pub text_is : text ≡ words w (length service.pages) verdict
+
+abbrev pub CertifiesTwice : (a b c d : List ℕ) → Verdict → List ℕ → Type 0
+CertifiesTwice = IsAnsweredTwice verdict_line
 
 -- why the inputs are refused: one of the texts; or, if both texts are accepted, a packet file
 abbrev pub IsRefusedTwice : List ℕ → List ℕ → List ℕ → List ℕ → FilesFault → Type 0
@@ -61,13 +70,16 @@ WalksFiles a b service w (Err (Cycle fault)) = IsRefusedCycle a b fault
 WalksFiles a b service w (Err NoMemory) = ⊤
 WalksFiles a b service w (Err _) = ⊥
 
-abbrev pub JudgesPasses : List ℕ → List ℕ → List ℕ → List ℕ → Result (Told Verdict) FilesFault → Type 0
-JudgesPasses a b c d (Ok told) = CertifiesTwice a b c d told.verdict (string_bytes told.line)
-JudgesPasses a b c d (Err fault) = IsRefusedTwice a b c d fault
+abbrev pub JudgesPasses : Words → (a b c d : List ℕ) → Result (Told Verdict) FilesFault → Type 0
+JudgesPasses words a b c d (Ok told) = IsAnsweredTwice words a b c d told.verdict (string_bytes told.line)
+JudgesPasses words a b c d (Err fault) = IsRefusedTwice a b c d fault
 
--- Ok: the line of the verdict went out. A write fault: its first `written` bytes. Otherwise nothing, and why the inputs are refused.
-abbrev pub CertifiesPasses : List ℕ → List ℕ → List ℕ → List ℕ → Option (List ℕ) → Option (List ℕ) → Result Verdict FilesFault → Type 0
-CertifiesPasses a b c d old new result = WritesAnswer (CertifiesTwice a b c d) (IsRefusedTwice a b c d) old new result
+-- Ok: the text of the verdict went out. A write fault: its first `written` bytes. Otherwise nothing, and why the inputs are refused.
+abbrev pub AnswersPasses : Words → (a b c d : List ℕ) → Option (List ℕ) → Option (List ℕ) → Result Verdict FilesFault → Type 0
+AnswersPasses words a b c d old new result = WritesAnswer (IsAnsweredTwice words a b c d) (IsRefusedTwice a b c d) old new result
+
+abbrev pub CertifiesPasses : (a b c d : List ℕ) → Option (List ℕ) → Option (List ℕ) → Result Verdict FilesFault → Type 0
+CertifiesPasses = AnswersPasses verdict_line
 
 abbrev pub PassesAreFiles : Type 0
 PassesAreFiles = (a c d : List ℕ) (verdict : Verdict) (line : List ℕ) → CertifiesTwice a a c d verdict line → Certifies a c d verdict line

@@ -1,36 +1,38 @@
 //! Certifies files: a packet file, a service definition and a certificate.
 
-ghost use Rattle.std.specs.Prelude.{◌≡◌, ◌∷◌, [], IfSome, IfOk, string_bytes};
+ghost use Rattle.std.specs.Prelude.{◌∷◌, [], IfSome};
 ghost use Rattle.ttx_cycle.specs.Counters.{inner_of, faults_of};
-ghost use Rattle.ttx_certificate.specs.Certificates.{fields_of};
 ghost use Rattle.ttx_files.specs.Answers.{IsUntouched, is_write};
 ghost use Rattle.ttx_files.specs.Devices.{AtCycle, AtService, AtCertificate, input, output, failed_at, IsFirstFailure};
 ghost use Rattle.ttx_certify.specs.CertifyingFiles.{CertifiesFiles, IsJudged};
-ghost use Rattle.ttx_certify.specs.VerdictLines.{verdict_line};
+ghost use Rattle.ttx_certify.specs.VerdictLines as rule;
 
 use crate::certified_services::certify_service;
 use crate::verdict::Verdict;
 use crate::verdict_lines::verdict_line;
+use crate::wordings::VerdictWording;
 use std::alloc::Global;
 use std::io::{Read, Write};
 use ttx_cycle::Counted;
 use ttx_files::{FilesFault, Inputs, Judge, Told, answer_files};
 use ttx_witness::{Certificate, NoMemory};
 
-/// The line of a verdict on `pages` pages.
-pub fn line_of(
-    alloc: Global,
-    certificate: &Certificate,
-    pages: usize,
-    verdict: &Verdict,
-) -> Result<String, NoMemory>
-    ensures { IfOk result (λ line. string_bytes line ≡ verdict_line (fields_of certificate.now) pages verdict.now) }
-{
-    verdict_line(alloc, certificate, pages, *verdict)
-}
-
 /// Judges for receivers that show a page at once. The line is that of `certify_files`.
 pub struct AtOnce;
+
+impl VerdictWording for AtOnce {
+    ghost words = { λ j. rule.verdict_line };
+
+    fn text(
+        &self,
+        alloc: Global,
+        certificate: &Certificate,
+        pages: usize,
+        verdict: Verdict,
+    ) -> Result<String, NoMemory> {
+        verdict_line(alloc, certificate, pages, verdict)
+    }
+}
 
 impl Judge for AtOnce {
     type Verdict = Verdict;
@@ -42,7 +44,7 @@ impl Judge for AtOnce {
         let Ok(verdict) = certify_service(alloc, &inputs.cycle, service, certificate) else {
             return Err(NoMemory);
         };
-        match line_of(alloc, certificate, service.pages().len(), &verdict) {
+        match self.text(alloc, certificate, service.pages().len(), verdict) {
             Ok(line) => Ok(Told { verdict, line }),
             Err(_) => Err(NoMemory),
         }

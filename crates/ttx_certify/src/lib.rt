@@ -26,6 +26,7 @@ pub mod verdict_laws;
 mod verdict_lines;
 mod verdicts;
 mod walks;
+mod wordings;
 
 pub use acceptance::{certify, certify_all};
 pub use all_files::All;
@@ -35,7 +36,8 @@ pub use certified_files::{AtOnce, certify_files};
 pub use certified_services::{certify_all_of_service, certify_service, find_service};
 pub use reception::receive;
 pub use ttx_files::{FilesFault, TextFile};
-pub use two_readings::{certify_passes, walk_files};
+pub use two_readings::{answer_passes, certify_passes};
 pub use verdict::Verdict;
 pub use verdict_lines::{push_reason, push_yes, verdict_line};
 pub use walks::passes::{Second, Walk, WalkFault};
+pub use wordings::VerdictWording;

@@ -5,18 +5,19 @@ ghost use Rattle.ttx_cycle.specs.Counters.{inner_of, faults_of};
 ghost use Rattle.ttx_certificate.specs.Certificates.{fields_of};
 ghost use Rattle.ttx_files.specs.Answers.{IsUntouched, is_write};
 ghost use Rattle.ttx_files.specs.Devices.{AtCycle, AtService, AtCertificate, input, output, failed_at, IsRight, IsFirstFailure};
-ghost use Rattle.ttx_certify.specs.CertifyingPasses.{WalksFiles, JudgesPasses, CertifiesPasses};
+ghost use Rattle.ttx_certify.specs.CertifyingPasses.{WalksFiles, JudgesPasses, AnswersPasses, CertifiesPasses};
 
-use crate::certified_files::line_of;
+use crate::certified_files::AtOnce;
 use crate::verdict::Verdict;
 use crate::walks::passes::Walk;
+use crate::wordings::VerdictWording;
 use std::alloc::Global;
 use std::io::{Read, Write};
 use ttx_cycle::Counted;
 use ttx_files::{FilesFault, Texts, Told, read_slots, read_texts, write_told};
 
-/// The verdict on the second of two readings of a packet file, which are read slot by slot, the first one first.
-pub fn walk_files<A: Read, B: Read>(
+// The verdict on the second of two readings of a packet file, which are read slot by slot, the first one first.
+fn walk_files<A: Read, B: Read>(
     alloc: Global,
     texts: &Texts,
     first: &mut Counted<A>,
@@ -42,8 +43,9 @@ pub fn walk_files<A: Read, B: Read>(
 }
 
 // Reads the four inputs and judges them.
-fn judge_passes<A: Read, B: Read, C: Read, D: Read>(
+fn judge_passes<V: VerdictWording, A: Read, B: Read, C: Read, D: Read>(
     alloc: Global,
+    wording: &V,
     first: &mut Counted<A>,
     second: &mut Counted<B>,
     service: &mut Counted<C>,
@@ -52,7 +54,7 @@ fn judge_passes<A: Read, B: Read, C: Read, D: Read>(
     ensures bytes { IfSome (A.remaining (inner_of first.old)) (λ a.
         IfSome (B.remaining (inner_of second.old)) (λ b.
         IfSome (C.remaining (inner_of service.old)) (λ c.
-        IfSome (D.remaining (inner_of certificate.old)) (λ d. JudgesPasses a b c d result)))) }
+        IfSome (D.remaining (inner_of certificate.old)) (λ d. JudgesPasses (V.words wording.now) a b c d result)))) }
     ensures right { IfOk result (λ _. IsRight AtService (C.remaining (inner_of service.old)) × IsRight AtCertificate (D.remaining (inner_of certificate.old))
         × IsRight AtCycle (A.remaining (inner_of first.old)) × IsRight AtCycle (B.remaining (inner_of second.old))) }
     ensures faults { IsFirstFailure (input AtService (C.remaining (inner_of service.old)) (faults_of service.old) (faults_of service.new)
@@ -69,10 +71,41 @@ fn judge_passes<A: Read, B: Read, C: Read, D: Read>(
         Err(fault) => return Err(fault),
     };
     let pages = texts.service.pages().len();
-    match line_of(alloc, &texts.certificate, pages, &verdict) {
+    match wording.text(alloc, &texts.certificate, pages, verdict) {
         Ok(line) => Ok(Told { verdict, line }),
         Err(_) => Err(FilesFault::NoMemory),
     }
+}
+
+/// Reads a service definition, a certificate, and then a packet file twice, in this order, slot by slot. Certifies the pages of the
+/// service for the second reading, and writes the verdict as it is worded.
+///
+/// Nothing is written before everything is judged. After a `Write` fault exactly the first `written` bytes of the text went out; after any
+/// other fault the writer is unchanged, whether or not the contents of the readers are known. `Cycle` is the fault of the first faulty
+/// packet file.
+pub fn answer_passes<V: VerdictWording, A: Read, B: Read, C: Read, D: Read, W: Write>(
+    alloc: Global,
+    wording: &V,
+    first: &mut Counted<A>,
+    second: &mut Counted<B>,
+    service: &mut Counted<C>,
+    certificate: &mut Counted<D>,
+    writer: &mut Counted<W>,
+) -> Result<Verdict, FilesFault>
+    ensures bytes { IfSome (A.remaining (inner_of first.old)) (λ a.
+        IfSome (B.remaining (inner_of second.old)) (λ b.
+        IfSome (C.remaining (inner_of service.old)) (λ c.
+        IfSome (D.remaining (inner_of certificate.old)) (λ d.
+        AnswersPasses (V.words wording.now) a b c d (W.contents (inner_of writer.old)) (W.contents (inner_of writer.new)) result)))) }
+    ensures faults { IsFirstFailure (input AtService (C.remaining (inner_of service.old)) (faults_of service.old) (faults_of service.new)
+        ∷ input AtCertificate (D.remaining (inner_of certificate.old)) (faults_of certificate.old) (faults_of certificate.new)
+        ∷ input AtCycle (A.remaining (inner_of first.old)) (faults_of first.old) (faults_of first.new)
+        ∷ input AtCycle (B.remaining (inner_of second.old)) (faults_of second.old) (faults_of second.new)
+        ∷ output (faults_of writer.old) (faults_of writer.new) ∷ []) (failed_at result) }
+    ensures untouched { IsUntouched is_write result writer.old writer.new }
+{
+    let told = judge_passes(alloc, wording, first, second, service, certificate);
+    write_told(told, writer)
 }
 
 /// Reads a service definition, a certificate, and then a packet file twice, in this order, slot by slot. Certifies the pages of the
@@ -102,6 +135,5 @@ pub fn certify_passes<A: Read, B: Read, C: Read, D: Read, W: Write>(
         ∷ output (faults_of writer.old) (faults_of writer.new) ∷ []) (failed_at result) }
     ensures untouched { IsUntouched is_write result writer.old writer.new }
 {
-    let told = judge_passes(alloc, first, second, service, certificate);
-    write_told(told, writer)
+    answer_passes(alloc, &AtOnce, first, second, service, certificate, writer)
 }

@@ -9,4 +9,3 @@ pub mod WaitReports
 pub mod NumberRecords
 pub mod NumberWaits
 pub mod ItemWaits
-pub mod Passes

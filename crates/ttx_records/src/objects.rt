@@ -1,6 +1,7 @@
 //! Judges whose verdicts are JSON objects, with the names and values of the lines.
 
 ghost use Rattle.std.specs.Prelude.{Some};
+ghost use Rattle.ttx_records.specs.Verdicts.{verdict_record};
 ghost use Rattle.ttx_records.specs.Judging.{IsRecorded, IsAllRecorded, IsLateRecorded, IsRequiredRecorded, IsNumbersRecorded};
 
 use crate::all_pages::all_records;
@@ -9,12 +10,12 @@ use crate::numbers::numbers_record;
 use crate::requirements::required_record;
 use crate::verdicts::verdict_record;
 use std::alloc::Global;
-use ttx_certify::{Verdict, certify_all_of_service, certify_service};
+use ttx_certify::{Verdict, VerdictWording, certify_all_of_service, certify_service};
 use ttx_deadline::{RequiredVerdict, certify_required};
 use ttx_files::{Inputs, Judge, Told};
 use ttx_late::{LateVerdict, certify_late};
 use ttx_subpages::{NumbersVerdict, certify_numbers, number_reports};
-use ttx_witness::NoMemory;
+use ttx_witness::{Certificate, NoMemory};
 
 /// Judges for receivers that show a page at once.
 pub struct AtOnce;
@@ -33,6 +34,20 @@ pub struct Required(pub u32);
 /// several pages behind a yes.
 pub struct ByNumber;
 
+impl VerdictWording for AtOnce {
+    ghost words = { λ j. verdict_record };
+
+    fn text(
+        &self,
+        alloc: Global,
+        certificate: &Certificate,
+        pages: usize,
+        verdict: Verdict,
+    ) -> Result<String, NoMemory> {
+        verdict_record(alloc, certificate, pages, verdict).map_err(|_| NoMemory)
+    }
+}
+
 impl Judge for AtOnce {
     type Verdict = Verdict;
 
@@ -41,10 +56,8 @@ impl Judge for AtOnce {
     fn judge(&self, alloc: Global, inputs: &Inputs) -> Result<Told<Verdict>, NoMemory> {
         let (service, certificate) = (&inputs.service, &inputs.certificate);
         let verdict = certify_service(alloc, &inputs.cycle, service, certificate)?;
-        match verdict_record(alloc, service, certificate, &verdict) {
-            Ok(line) => Ok(Told { verdict, line }),
-            Err(_) => Err(NoMemory),
-        }
+        let line = self.text(alloc, certificate, service.pages().len(), verdict)?;
+        Ok(Told { verdict, line })
     }
 }
 

@@ -1,6 +1,6 @@
 //! Verdicts of `certify`.
 
-ghost use Rattle.std.specs.Prelude.{◌≡◌, ◌++◌, IfOk, OnOk, length, map, string_bytes};
+ghost use Rattle.std.specs.Prelude.{◌≡◌, ◌++◌, IfOk, OnOk, map, string_bytes};
 ghost use Rattle.ttx_certificate.specs.Certificates.{fields_of};
 ghost use Rattle.ttx_json.specs.Members.{member_of};
 ghost use Rattle.ttx_records.specs.Names.{line};
@@ -11,7 +11,6 @@ use crate::names::class_name;
 use std::alloc::{AllocError, Global};
 use ttx_certify::Verdict;
 use ttx_json::{Member, count, word};
-use ttx_source::Service;
 use ttx_witness::{Certificate, Reason};
 
 /// Adds a rejection for a reason.
@@ -93,17 +92,16 @@ pub fn push_verdict(
     }
 }
 
-/// The object of a verdict on the pages of a service.
+/// The object of a verdict on `pages` pages.
 pub fn verdict_record(
     alloc: Global,
-    service: &Service,
     certificate: &Certificate,
-    verdict: &Verdict,
+    pages: usize,
+    verdict: Verdict,
 ) -> Result<String, AllocError>
-    ensures { IfOk result (λ text. string_bytes text ≡ rule.verdict_record (fields_of certificate.now) (length service.now.pages) verdict.now) }
+    ensures { IfOk result (λ text. string_bytes text ≡ rule.verdict_record (fields_of certificate.now) pages verdict) }
 {
-    let pages = service.pages().len();
     let mut text = String::new(alloc);
-    push_verdict(alloc, &mut text, certificate, pages, *verdict)?;
+    push_verdict(alloc, &mut text, certificate, pages, verdict)?;
     Ok(text)
 }

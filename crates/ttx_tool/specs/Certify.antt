@@ -7,14 +7,14 @@ use Rattle.std.specs.Prelude.{ℕ, Bool, true, false, List, Option, Some, IfSome
 use Rattle.ttx_certificate.specs.Entries.{CertificateFields}
 use Rattle.ttx_certify.specs.AllLines.{IsJudgedAll}
 use Rattle.ttx_certify.specs.CertifyingFiles.{IsJudged}
-use Rattle.ttx_certify.specs.CertifyingPasses.{CertifiesPasses}
+use Rattle.ttx_certify.specs.CertifyingPasses.{AnswersPasses, CertifiesPasses}
 use Rattle.ttx_certify.specs.declared.verdict.Verdict.{Verdict}
 use Rattle.ttx_deadline.specs.RequiredFiles.{IsJudgedRequired}
 use Rattle.ttx_files.specs.Judging.{AnswersFiles}
 use Rattle.ttx_files.specs.declared.faults.FilesFault.{FilesFault}
 use Rattle.ttx_late.specs.CertifyingLate.{IsJudgedLate}
 use Rattle.ttx_records.specs.Judging.{IsRecorded, IsAllRecorded, IsLateRecorded, IsNumbersRecorded, IsRequiredRecorded}
-use Rattle.ttx_records.specs.Passes.{CertifiesPassesJson}
+use Rattle.ttx_records.specs.Verdicts.{verdict_record}
 use Rattle.ttx_source.specs.Services.{ServiceFields}
 use Rattle.ttx_subpages.specs.CertifyingNumbers.{IsJudgedByNumber}
 use Rattle.ttx_tool.specs.Answers.{verdict_status, late_status, numbers_status, required_status, IsAnswered}
@@ -44,7 +44,7 @@ CertifiesBy true (Within most) = AnswersClaim required_status (λ slots service 
 
 abbrev pub TellsPasses : (json : Bool) → (first second service certificate : List ℕ) → (old new : Option (List ℕ)) → Result Verdict FilesFault → Type 0
 TellsPasses false = CertifiesPasses
-TellsPasses true = CertifiesPassesJson
+TellsPasses true = AnswersPasses verdict_record
 
 abbrev pub CertifiesTwice : (json : Bool) → (first second service certificate old new : Option (List ℕ)) → Result ℕ ToolFault → Type 0
 CertifiesTwice json first second service certificate old new result =

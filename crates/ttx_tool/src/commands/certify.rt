@@ -13,12 +13,12 @@ use crate::claims::Claim;
 use crate::faults::ToolFault;
 use std::alloc::Global;
 use std::io::{Read, Write};
-use ttx_certify::{All, AtOnce, Verdict, certify_passes};
+use ttx_certify::{All, AtOnce, Verdict, answer_passes, certify_passes};
 use ttx_cycle::Counted;
 use ttx_deadline::{Required, RequiredVerdict};
 use ttx_files::{Judge, answer_files};
 use ttx_late::{Late, LateVerdict};
-use ttx_records::{certify_passes_json, objects};
+use ttx_records::objects;
 use ttx_subpages::{ByNumber, NumbersVerdict};
 
 /// What a cycle is judged for.
@@ -164,7 +164,8 @@ pub fn run_twice<A: Read, B: Read, C: Read, D: Read, W: Write>(
     let (second, service) = (&mut claim.cycle, &mut claim.service);
     let certificate = &mut claim.certificate;
     if json {
-        match certify_passes_json(alloc, first, second, service, certificate, writer) {
+        let object = objects::AtOnce;
+        match answer_passes(alloc, &object, first, second, service, certificate, writer) {
             Ok(verdict) => Ok(verdict.status()),
             Err(fault) => Err(ToolFault::Files(fault)),
         }

@@ -2,7 +2,7 @@ use Rattle.std.proofs.Common.{[], ◌∷◌}
 use Rattle.ttx_cycle.specs.Counters.{inner_of, faults_of}
 use Rattle.ttx_files.specs.Devices.{AtCycle, AtService, AtCertificate, input}
 use Rattle.ttx_files.proofs.Failures.{told_after}
-use Rattle.ttx_records.proofs.two_readings.certify_passes_json.Goals as goal
+use Rattle.ttx_certify.proofs.two_readings.answer_passes.Goals as goal
 
 pub returns-clause-faults : goal.returns-clause-faults
 returns-clause-faults g c =
