@@ -15,10 +15,10 @@ use Rattle.ttx_promise.specs.declared.faults.LatePage.{LatePage}
 use Rattle.ttx_promise.specs.declared.waits_and_promises.PromisedWait.{PromisedWait}
 use Rattle.ttx_source.specs.Promises.{PromiseFields}
 use Rattle.ttx_source.specs.Services.{ServiceFields, pages_of}
-use Rattle.ttx_witness.specs.waits.PageWaits.{AreWaits, CanAccept, IsLeast, fields_told}
-use Rattle.ttx_witness.specs.declared.waits.wait.PageWait.{PageWait}
-use Rattle.ttx_witness.specs.declared.waits.wait.Wait.{Wait}
-use Rattle.ttx_witness.specs.declared.waits.wait.Wait.TheVariants.{Fields, Faulty, Unsure}
+use Rattle.ttx_witness.specs.wait_times.PageWaits.{AreWaits, CanAccept, IsLeast, fields_told}
+use Rattle.ttx_witness.specs.declared.wait_times.wait.PageWait.{PageWait}
+use Rattle.ttx_witness.specs.declared.wait_times.wait.Wait.{Wait}
+use Rattle.ttx_witness.specs.declared.wait_times.wait.Wait.TheVariants.{Fields, Faulty, Unsure}
 use Rattle.ttx_carousel.specs.Carousels.{IsSeen, AreSeen}
 use Rattle.ttx_promise.specs.declared.promised_plan.Viewers.{Viewers}
 use Rattle.ttx_carousel.specs.Judging.{IsUnseen, IsLateFor, IsKeptFor, IsFirstLate, IsShownOrMissed, IsShownLate, IsJudged}

@@ -15,7 +15,7 @@ use Rattle.ttx_promise.specs.declared.promised_plan.Viewers.{Viewers}
 use Rattle.ttx_source.specs.Promises.{PromiseFields}
 use Rattle.ttx_source.specs.Services.{ServiceFields, pages_of}
 use Rattle.ttx_subpages.specs.NumberReports.{IsStayOrNone}
-use Rattle.ttx_witness.specs.waits.PageWaits.{CanAccept}
+use Rattle.ttx_witness.specs.wait_times.PageWaits.{CanAccept}
 
 abbrev pub IsStayOf : List (List ℕ) → Page → ℕ → Type 0
 IsStayOf cycle p slots = IsStayOrNone (repeated cycle) (AnySub p.id.mag p.id.page) slots

@@ -18,7 +18,7 @@ use Rattle.ttx_promise.specs.declared.faults.LatePage.{LatePage}
 use Rattle.ttx_promise.specs.declared.promised_plan.Viewers.{Viewers}
 use Rattle.ttx_source.specs.Promises.{PromiseFields}
 use Rattle.ttx_source.specs.Services.{ServiceFields, pages_of}
-use Rattle.ttx_witness.specs.waits.PageWaits.{CanAccept, IsLeast}
+use Rattle.ttx_witness.specs.wait_times.PageWaits.{CanAccept, IsLeast}
 use Rattle.ttx_header.specs.Ids.{Id}
 use Rattle.ttx_carousel.specs.Carousels.{IsStayOf, IsStayKeptFor, IsSeen, AreSeen}
 use Rattle.ttx_carousel.specs.declared.faults.ShortStay.{ShortStay}

@@ -9,9 +9,9 @@ use Rattle.ttx_header.specs.Ids.{Id}
 use Rattle.ttx_promise.specs.declared.faults.LatePage.{LatePage}
 use Rattle.ttx_promise.specs.declared.waits_and_promises.PromisedWait.{PromisedWait}
 use Rattle.ttx_source.specs.Promises.{PromiseFields}
-use Rattle.ttx_witness.specs.declared.waits.wait.PageWait.{PageWait}
-use Rattle.ttx_witness.specs.declared.waits.wait.Wait.{Wait}
-use Rattle.ttx_witness.specs.declared.waits.wait.Wait.TheVariants.{Fields, Faulty, Unsure}
+use Rattle.ttx_witness.specs.declared.wait_times.wait.PageWait.{PageWait}
+use Rattle.ttx_witness.specs.declared.wait_times.wait.Wait.{Wait}
+use Rattle.ttx_witness.specs.declared.wait_times.wait.Wait.TheVariants.{Fields, Faulty, Unsure}
 
 abbrev pub told_of : PromisedWait → PageWait
 told_of one = one.told

@@ -14,7 +14,7 @@ ghost use Rattle.ttx_extract.specs.FoundInfos.{MinusZero};
 use crate::draft::Draft;
 use crate::faults::ExtractFault;
 use crate::infos::{FoundInfo, first_info};
-use crate::named_pages::named_pages;
+use crate::page_names::named_pages;
 use crate::sent_page::{SentPage, sent_page};
 use crate::serial::first_serial;
 use std::alloc::{AllocError, Global};

@@ -9,7 +9,7 @@ pub mod faults;
 mod gathered;
 mod infos;
 pub mod laws;
-mod named_pages;
+mod page_names;
 mod page_texts;
 mod refusals;
 mod sent_page;

@@ -1,7 +1,6 @@
 //! All mistakes of a service text, and the warnings about it, each at its place.
 #![tactic(auto)]
 
-mod all_mistakes;
 pub mod check_report;
 pub mod error_notes;
 mod faults;
@@ -11,6 +10,7 @@ pub mod key_notes;
 pub mod laws;
 mod long_lines;
 pub mod long_reports;
+mod mistake_list;
 pub mod mistakes;
 pub mod notes;
 mod page_parts;
@@ -19,7 +19,7 @@ mod stay_notes;
 pub mod warning_notes;
 mod whys;
 
-pub use all_mistakes::all_mistakes;
 pub use check_report::{Reported, Style, check_in, report_in_style};
 pub use long_reports::{LongReport, long_report, notes_of, pages_in, report_on};
+pub use mistake_list::all_mistakes;
 pub use placed::{Paper, Placed, push_notes, value_place};

@@ -11,11 +11,11 @@ ghost use Rattle.ttx_mistakes.specs.LongReports as rule;
 ghost use Rattle.ttx_mistakes.specs.NoteViews.{note_views};
 ghost use Rattle.ttx_mistakes.specs.PlacedViews.{placed_views};
 
-use crate::all_mistakes::all_mistakes;
 use crate::error_notes::push_errors;
 use crate::first_keys::first_place;
 use crate::key_notes::push_keys;
 use crate::long_lines::{Said, push_first, push_lines, push_placed};
+use crate::mistake_list::all_mistakes;
 use crate::notes::Note;
 use crate::placed::{Paper, Placed, push_notes};
 use crate::stay_notes::push_stays;

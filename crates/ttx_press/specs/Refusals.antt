@@ -27,10 +27,10 @@ use Rattle.ttx_promise.specs.declared.promised_plan.Viewers.{Viewers}
 use Rattle.ttx_source.specs.Promises.{PromiseFields}
 use Rattle.ttx_source.specs.Services.{ServiceFields, pages_of}
 use Rattle.ttx_witness.specs.declared.faults.reason.Reason.{Reason}
-use Rattle.ttx_witness.specs.declared.waits.wait.PageWait.{PageWait}
-use Rattle.ttx_witness.specs.declared.waits.wait.Wait.{Wait}
-use Rattle.ttx_witness.specs.declared.waits.wait.Wait.TheVariants.{Fields}
-use Rattle.ttx_witness.specs.waits.PageWaits.{AreWaits}
+use Rattle.ttx_witness.specs.declared.wait_times.wait.PageWait.{PageWait}
+use Rattle.ttx_witness.specs.declared.wait_times.wait.Wait.{Wait}
+use Rattle.ttx_witness.specs.declared.wait_times.wait.Wait.TheVariants.{Fields}
+use Rattle.ttx_witness.specs.wait_times.PageWaits.{AreWaits}
 use Rattle.ttx_press.specs.AuthorRefusals.{IsAuthorRefusal}
 use Rattle.ttx_press.specs.Houses.{asked_of, viewers_of}
 use Rattle.ttx_press.specs.declared.house.House.{House}

@@ -6,7 +6,7 @@ ghost use Rattle.ttx_certify.specs.declared.verdict.Verdict.TheVariants.{Yes};
 ghost use Rattle.ttx_cycle.specs.Cycles.{slots_of};
 ghost use Rattle.ttx_page.specs.declared.class.Class.TheVariants.{Any};
 ghost use Rattle.ttx_source.specs.Services.{pages_of};
-ghost use Rattle.ttx_witness.specs.waits.PageWaits.{AreWaits};
+ghost use Rattle.ttx_witness.specs.wait_times.PageWaits.{AreWaits};
 ghost use Rattle.ttx_deadline.specs.Deadlines.{IsFoundWith};
 ghost use Rattle.ttx_press.specs.Houses as terms;
 ghost use Rattle.ttx_press.specs.Refusals.{Says, IsTooSlow, IsSlowness};

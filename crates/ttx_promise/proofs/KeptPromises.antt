@@ -14,10 +14,10 @@ use Rattle.ttx_page.specs.declared.class.Class.{Class}
 use Rattle.ttx_plan.specs.Acceptance.{IsAcceptedForEach}
 use Rattle.ttx_source.specs.Promises.{PromiseFields}
 use Rattle.ttx_source.specs.Services.{Authored, authored_ids, ServiceFields, pages_of}
-use Rattle.ttx_witness.specs.waits.PageWaits.{AreWaits, CanAccept, IsLeast, fields_told}
-use Rattle.ttx_witness.specs.declared.waits.wait.PageWait.{PageWait}
-use Rattle.ttx_witness.specs.declared.waits.wait.Wait.{Wait}
-use Rattle.ttx_witness.specs.declared.waits.wait.Wait.TheVariants.{Fields, Faulty, Unsure}
+use Rattle.ttx_witness.specs.wait_times.PageWaits.{AreWaits, CanAccept, IsLeast, fields_told}
+use Rattle.ttx_witness.specs.declared.wait_times.wait.PageWait.{PageWait}
+use Rattle.ttx_witness.specs.declared.wait_times.wait.Wait.{Wait}
+use Rattle.ttx_witness.specs.declared.wait_times.wait.Wait.TheVariants.{Fields, Faulty, Unsure}
 use Rattle.ttx_promise.specs.Deadlines.{AreDeadlines, fields_of}
 use Rattle.ttx_promise.specs.Lateness.{late_page, late_of, late_at}
 use Rattle.ttx_promise.specs.Promises.{IsKept, AreKept}

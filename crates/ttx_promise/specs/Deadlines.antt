@@ -5,9 +5,9 @@
 use Rattle.std.specs.Prelude.{◌≡◌, ℕ, List, length, slice_get, Some}
 use Rattle.ttx_page.specs.Pages.{Page}
 use Rattle.ttx_page.specs.declared.class.Class.{Class}
-use Rattle.ttx_witness.specs.waits.PageWaits.{CanAccept, IsLeast}
-use Rattle.ttx_witness.specs.declared.waits.wait.Wait.{Wait}
-use Rattle.ttx_witness.specs.declared.waits.wait.Wait.TheVariants.{Fields}
+use Rattle.ttx_witness.specs.wait_times.PageWaits.{CanAccept, IsLeast}
+use Rattle.ttx_witness.specs.declared.wait_times.wait.Wait.{Wait}
+use Rattle.ttx_witness.specs.declared.wait_times.wait.Wait.TheVariants.{Fields}
 
 abbrev pub fields_of : Wait → ℕ
 fields_of (Fields fields item) = fields

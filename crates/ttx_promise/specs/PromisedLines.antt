@@ -12,9 +12,9 @@ use Rattle.std.specs.Fmt.{decimal}
 use Rattle.ttx_header.specs.Ids.{Id}
 use Rattle.ttx_digits.specs.PageIds.{id_text}
 use Rattle.ttx_wait.specs.WaitLines.{seconds_text, fields_text, wait_text, all_text, lines_under}
-use Rattle.ttx_witness.specs.declared.waits.wait.ItemWait.{ItemWait}
-use Rattle.ttx_witness.specs.declared.waits.wait.Wait.{Wait}
-use Rattle.ttx_witness.specs.declared.waits.wait.Wait.TheVariants.{Fields, Faulty, Unsure}
+use Rattle.ttx_witness.specs.declared.wait_times.wait.ItemWait.{ItemWait}
+use Rattle.ttx_witness.specs.declared.wait_times.wait.Wait.{Wait}
+use Rattle.ttx_witness.specs.declared.wait_times.wait.Wait.TheVariants.{Fields, Faulty, Unsure}
 use Rattle.ttx_promise.specs.OtherPages.{others_text}
 use Rattle.ttx_promise.specs.declared.waits_and_promises.PromisedWait.{PromisedWait}
 

@@ -12,10 +12,10 @@ use Rattle.ttx_wait.specs.Reports.{IsFirstBad, deadline_of}
 use Rattle.ttx_wait.specs.declared.reports.Detail.{Detail}
 use Rattle.ttx_wait.specs.declared.reports.Detail.TheVariants.{Pages, Items}
 use Rattle.ttx_witness.specs.laws.WaitLaws.{greatest}
-use Rattle.ttx_witness.specs.waits.ItemWaits.{AreItemWaits}
-use Rattle.ttx_witness.specs.waits.PageWaits.{AreWaits}
-use Rattle.ttx_witness.specs.declared.waits.wait.ItemWait.{ItemWait}
-use Rattle.ttx_witness.specs.declared.waits.wait.PageWait.{PageWait}
+use Rattle.ttx_witness.specs.wait_times.ItemWaits.{AreItemWaits}
+use Rattle.ttx_witness.specs.wait_times.PageWaits.{AreWaits}
+use Rattle.ttx_witness.specs.declared.wait_times.wait.ItemWait.{ItemWait}
+use Rattle.ttx_witness.specs.declared.wait_times.wait.PageWait.{PageWait}
 use Rattle.ttx_promise.specs.OtherPages.{other_pages}
 use Rattle.ttx_promise.specs.PromisedLines.{all_lines, all_item_lines}
 use Rattle.ttx_promise.specs.PromisedWaits.{is_late, with_promises}

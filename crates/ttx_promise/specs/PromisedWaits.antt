@@ -8,10 +8,10 @@ use Rattle.std.specs.Prelude.{◌≡◌, ℕ, suc, Bool, true, false, ◌==◌, 
 use Rattle.ttx_page.specs.Pages.{Page}
 use Rattle.ttx_page.specs.declared.class.Class.{Class}
 use Rattle.ttx_source.specs.Promises.{PromiseFields}
-use Rattle.ttx_witness.specs.waits.PageWaits.{AreWaits}
-use Rattle.ttx_witness.specs.declared.waits.wait.PageWait.{PageWait}
-use Rattle.ttx_witness.specs.declared.waits.wait.Wait.{Wait}
-use Rattle.ttx_witness.specs.declared.waits.wait.Wait.TheVariants.{Fields, Faulty, Unsure}
+use Rattle.ttx_witness.specs.wait_times.PageWaits.{AreWaits}
+use Rattle.ttx_witness.specs.declared.wait_times.wait.PageWait.{PageWait}
+use Rattle.ttx_witness.specs.declared.wait_times.wait.Wait.{Wait}
+use Rattle.ttx_witness.specs.declared.wait_times.wait.Wait.TheVariants.{Fields, Faulty, Unsure}
 use Rattle.ttx_promise.specs.declared.waits_and_promises.PromisedWait.{PromisedWait}
 
 -- a page without a deadline breaks each promise

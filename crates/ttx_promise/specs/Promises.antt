@@ -20,7 +20,7 @@ use Rattle.ttx_plan.specs.Following.{AreFollowed}
 use Rattle.ttx_plan.specs.Spread.{IsSpreadPlan, IsTooLongSpread}
 use Rattle.ttx_source.specs.Promises.{PromiseFields}
 use Rattle.ttx_source.specs.Services.{Authored, ServiceFields, pages_of, with_often}
-use Rattle.ttx_witness.specs.waits.PageWaits.{CanAccept}
+use Rattle.ttx_witness.specs.wait_times.PageWaits.{CanAccept}
 use Rattle.ttx_promise.specs.Deadlines.{AreDeadlines}
 use Rattle.ttx_promise.specs.Lateness.{often_at, NoneMayRise, IsLatest, LateFields, late_of}
 use Rattle.ttx_promise.specs.Views.{late_view}

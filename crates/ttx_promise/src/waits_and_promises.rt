@@ -81,7 +81,7 @@ pub fn some_late(all: &[PromisedWait]) -> bool
     all.iter().any(|one| one.is_late())
 }
 
-/// The wait of each page of a service (see `ttx_witness::waits`) with its promise, in authored order. `repeat` is 1 to 8. `Err` if memory
+/// The wait of each page of a service (see `ttx_witness::wait_times`) with its promise, in authored order. `repeat` is 1 to 8. `Err` if memory
 /// runs out.
 pub fn promised_waits(
     alloc: Global,

@@ -14,15 +14,15 @@ use Rattle.ttx_promise.specs.PromisedWaits.{beside}
 use Rattle.ttx_source.specs.Services.{ServiceFields, pages_of}
 use Rattle.ttx_wait.specs.Reports.{IsFirstBad, deadline_of}
 use Rattle.ttx_witness.specs.laws.WaitLaws.{greatest}
-use Rattle.ttx_witness.specs.waits.ItemWaits.{AreItemWaits}
-use Rattle.ttx_witness.specs.waits.PageWaits.{AreWaits}
-use Rattle.ttx_witness.specs.declared.waits.wait.ItemWait.{ItemWait}
-use Rattle.ttx_witness.specs.declared.waits.wait.Losses.{Losses}
-use Rattle.ttx_witness.specs.declared.waits.wait.OwnWait.{OwnWait}
-use Rattle.ttx_witness.specs.declared.waits.wait.OwnWait.TheVariants.{Least, Never}
-use Rattle.ttx_witness.specs.declared.waits.wait.PageWait.{PageWait}
-use Rattle.ttx_witness.specs.declared.waits.wait.Wait.{Wait}
-use Rattle.ttx_witness.specs.declared.waits.wait.Wait.TheVariants.{Faulty}
+use Rattle.ttx_witness.specs.wait_times.ItemWaits.{AreItemWaits}
+use Rattle.ttx_witness.specs.wait_times.PageWaits.{AreWaits}
+use Rattle.ttx_witness.specs.declared.wait_times.wait.ItemWait.{ItemWait}
+use Rattle.ttx_witness.specs.declared.wait_times.wait.Losses.{Losses}
+use Rattle.ttx_witness.specs.declared.wait_times.wait.OwnWait.{OwnWait}
+use Rattle.ttx_witness.specs.declared.wait_times.wait.OwnWait.TheVariants.{Least, Never}
+use Rattle.ttx_witness.specs.declared.wait_times.wait.PageWait.{PageWait}
+use Rattle.ttx_witness.specs.declared.wait_times.wait.Wait.{Wait}
+use Rattle.ttx_witness.specs.declared.wait_times.wait.Wait.TheVariants.{Faulty}
 use Rattle.ttx_json.specs.Objects.{Member, word, count}
 use Rattle.ttx_records.specs.Names.{line, item_name}
 use Rattle.ttx_records.specs.Waits.{never, fields_members, page_record, all_members}

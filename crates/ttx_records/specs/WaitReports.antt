@@ -12,8 +12,8 @@ use Rattle.ttx_promise.specs.OtherPages.{other_pages}
 use Rattle.ttx_promise.specs.PromisedWaits.{is_late, with_promises}
 use Rattle.ttx_wait.specs.Reports.{IsFirstBad, deadline_of}
 use Rattle.ttx_witness.specs.laws.WaitLaws.{greatest}
-use Rattle.ttx_witness.specs.waits.PageWaits.{AreWaits}
-use Rattle.ttx_witness.specs.declared.waits.wait.PageWait.{PageWait}
+use Rattle.ttx_witness.specs.wait_times.PageWaits.{AreWaits}
+use Rattle.ttx_witness.specs.declared.wait_times.wait.PageWait.{PageWait}
 use Rattle.ttx_records.specs.Waits.{wait_records}
 
 abbrev pub absent_pages : List (List ℕ) → ServiceFields → List PromiseFields → List Id

@@ -17,9 +17,9 @@ use Rattle.ttx_promise.specs.declared.waits_and_promises.PromisedWait.{PromisedW
 use Rattle.ttx_wait.specs.WaitLines.{seconds_text}
 use Rattle.ttx_witness.specs.declared.faults.reason.Reason.{Reason}
 use Rattle.ttx_witness.specs.declared.faults.reason.Reason.TheVariants.{NoHeader, OtherSubpage, Erased, HeadDiffers, RowDiffers, LinksDiffer}
-use Rattle.ttx_witness.specs.declared.waits.wait.Losses.{Losses}
-use Rattle.ttx_witness.specs.declared.waits.wait.Wait.{Wait}
-use Rattle.ttx_witness.specs.declared.waits.wait.Wait.TheVariants.{Fields, Faulty, Unsure}
+use Rattle.ttx_witness.specs.declared.wait_times.wait.Losses.{Losses}
+use Rattle.ttx_witness.specs.declared.wait_times.wait.Wait.{Wait}
+use Rattle.ttx_witness.specs.declared.wait_times.wait.Wait.TheVariants.{Fields, Faulty, Unsure}
 use Rattle.ttx_json.specs.Objects.{Member, word, count, flag}
 use Rattle.ttx_records.specs.declared.waits.Beside.{Beside}
 use Rattle.ttx_records.specs.Names.{line, item_name}

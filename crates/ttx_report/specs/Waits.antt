@@ -13,7 +13,7 @@ use Rattle.ttx_header.specs.Ids.{Id}
 use Rattle.ttx_promise.specs.PromisedWaits.{is_late}
 use Rattle.ttx_promise.specs.declared.waits_and_promises.PromisedWait.{PromisedWait}
 use Rattle.ttx_wait.specs.WaitLines.{fields_text, wait_text, all_text}
-use Rattle.ttx_witness.specs.declared.waits.wait.PageWait.{PageWait}
+use Rattle.ttx_witness.specs.declared.wait_times.wait.PageWait.{PageWait}
 use Rattle.ttx_witness.specs.laws.WaitLaws.{greatest}
 
 unfoldable pub kept_text : Bool → List ℕ

@@ -4,5 +4,5 @@ pub mod runs
 pub mod sent
 pub mod faults
 pub mod search
-pub mod waits
+pub mod wait_times
 pub mod laws

@@ -23,7 +23,7 @@ pub mod laws;
 mod runs;
 mod search;
 mod sent;
-mod waits;
+mod wait_times;
 
 pub use faults::bad_slots::bad_slot;
 pub use faults::other_subpages::{OtherSubpages, first_of, none_told, note_slot};
@@ -49,6 +49,6 @@ pub use ttx_certificate::{
     CertFault, Certificate, Entry, NoMemory, certificate_laws, digit, limit, push_id, push_item,
     push_numbers, read_certificate, write_certificate,
 };
-pub use waits::item_waits::item_waits;
-pub use waits::page_waits::waits;
-pub use waits::wait::{ItemWait, Losses, OwnWait, PageWait, Wait};
+pub use wait_times::item_waits::item_waits;
+pub use wait_times::page_waits::waits;
+pub use wait_times::wait::{ItemWait, Losses, OwnWait, PageWait, Wait};

@@ -19,8 +19,8 @@ use Rattle.ttx_witness.specs.runs.Transmissions.{Transmission}
 use Rattle.ttx_witness.specs.sent.ItemTransmissions.{sent_in}
 use Rattle.ttx_witness.specs.Coverage.{Certificate, IsCertificate}
 use Rattle.ttx_witness.specs.search.Finding.{wider, IsFoundFor}
-use Rattle.ttx_witness.specs.waits.PageWaits.{is_near, is_cut, fields_told, AreWaits}
-use Rattle.ttx_witness.specs.declared.waits.wait.PageWait.{PageWait}
+use Rattle.ttx_witness.specs.wait_times.PageWaits.{is_near, is_cut, fields_told, AreWaits}
+use Rattle.ttx_witness.specs.declared.wait_times.wait.PageWait.{PageWait}
 
 abbrev pub greatest : List PageWait → Option ℕ
 greatest [] = Some 1

@@ -1,6 +1,6 @@
 //! Laws of how long viewers wait.
 
-ghost use Rattle.ttx_witness.specs.waits.ItemWaits.{PageIsGreatest};
+ghost use Rattle.ttx_witness.specs.wait_times.ItemWaits.{PageIsGreatest};
 ghost use Rattle.ttx_witness.specs.laws.WaitLaws.{DeadlineIsGreatest, LossesAreTold};
 
 /// If no slot is bad, the deadline of the certificate that is found is the greatest of the pages' deadlines.

@@ -2,8 +2,8 @@ use Rattle.std.proofs.Common.{ℕ, List, map, ap, subst, ◌∙◌}
 use Rattle.ttx_cycle.specs.Cycles.{slots_of}
 use Rattle.ttx_page.specs.Pages.{Page}
 use Rattle.ttx_source.specs.Services.{pages_of}
-use Rattle.ttx_witness.specs.waits.PageWaits.{AreWaits}
-use Rattle.ttx_witness.specs.declared.waits.wait.PageWait.{PageWait}
+use Rattle.ttx_witness.specs.wait_times.PageWaits.{AreWaits}
+use Rattle.ttx_witness.specs.declared.wait_times.wait.PageWait.{PageWait}
 use Rattle.ttx_promise.specs.Deadlines.{fields_of}
 use Rattle.ttx_promise.proofs.KeptPromises.{are_deadlines, distinct_ids}
 use Rattle.ttx_promise.proofs.deadlines.deadlines.Goals as goal

@@ -6,7 +6,7 @@ use Rattle.ttx_source.specs.PromiseViews.{promise_view}
 use Rattle.ttx_source.specs.Services.{authored_ids, pages_of}
 use Rattle.ttx_wait.specs.Reports.{deadline_of}
 use Rattle.ttx_witness.specs.laws.WaitLaws.{greatest}
-use Rattle.ttx_witness.specs.waits.PageWaits.{AreWaits}
+use Rattle.ttx_witness.specs.wait_times.PageWaits.{AreWaits}
 use Rattle.ttx_promise.specs.OtherPages.{other_pages}
 use Rattle.ttx_promise.specs.PromisedLines.{all_lines}
 use Rattle.ttx_promise.specs.PromisedWaits.{is_late, with_promises}

@@ -4,8 +4,8 @@ use Rattle.ttx_page.specs.Pages.{Page}
 use Rattle.ttx_source.specs.Services.{pages_of}
 use Rattle.ttx_wait.specs.Reports.{deadline_of}
 use Rattle.ttx_witness.specs.laws.WaitLaws.{greatest}
-use Rattle.ttx_witness.specs.waits.ItemWaits.{AreItemWaits}
-use Rattle.ttx_witness.specs.waits.PageWaits.{AreWaits}
+use Rattle.ttx_witness.specs.wait_times.ItemWaits.{AreItemWaits}
+use Rattle.ttx_witness.specs.wait_times.PageWaits.{AreWaits}
 use Rattle.ttx_certify.proofs.AuthoredIds.{distinct_ids}
 use Rattle.ttx_records.specs.ItemWaits.{item_wait_records}
 use Rattle.ttx_records.proofs.item_reports.report_item_waits.Goals as goal

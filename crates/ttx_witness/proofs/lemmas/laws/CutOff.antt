@@ -13,7 +13,7 @@ use Rattle.ttx_page.specs.declared.item.Item.TheVariants.{Head as TheHead, Row a
 use Rattle.ttx_witness.specs.runs.Transmissions.{Transmission}
 use Rattle.ttx_witness.specs.runs.Repeating.{AreSent, Tells}
 use Rattle.ttx_witness.specs.sent.ItemTransmissions.{sent_in}
-use Rattle.ttx_witness.specs.waits.PageWaits.{is_near, is_cut}
+use Rattle.ttx_witness.specs.wait_times.PageWaits.{is_near, is_cut}
 use Rattle.ttx_witness.specs.laws.WaitLaws.{IsNear, IsCut, IsLossTold, LossesAreTold}
 use Rattle.ttx_witness.proofs.lemmas.WholeNumbers.{is_lt, abs_is}
 use Rattle.ttx_witness.proofs.lemmas.sent.CycleTransmissions.{sent_told}

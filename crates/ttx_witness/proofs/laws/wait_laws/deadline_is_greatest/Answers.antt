@@ -1,4 +1,4 @@
-use Rattle.ttx_witness.proofs.lemmas.waits.GreatestPage as L
+use Rattle.ttx_witness.proofs.lemmas.wait_times.GreatestPage as L
 use Rattle.ttx_witness.proofs.laws.wait_laws.deadline_is_greatest.Goals as goal
 
 pub returns : goal.returns

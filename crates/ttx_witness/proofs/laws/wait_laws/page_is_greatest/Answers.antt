@@ -1,5 +1,5 @@
 use Rattle.ttx_page.specs.Views.{page_of}
-use Rattle.ttx_witness.proofs.lemmas.waits.GreatestItem.{page_greatest}
+use Rattle.ttx_witness.proofs.lemmas.wait_times.GreatestItem.{page_greatest}
 use Rattle.ttx_witness.proofs.laws.wait_laws.page_is_greatest.Goals as goal
 
 pub returns : goal.returns

@@ -1,5 +1,0 @@
-use Rattle.ttx_witness.specs.waits.SurveyedWaits.{IsLongestIn}
-use Rattle.ttx_witness.proofs.waits.page_waits.longest_item.Given as goal
-
-abbrev pub invariant-loop-number : goal.invariant-loop-number
-invariant-loop-number l = record { longest : IsLongestIn l.surveyed l.number l.fields l.longest }
