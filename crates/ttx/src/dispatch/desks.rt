@@ -19,7 +19,7 @@ pub fn shown_name(name: &str) -> &str {
 /// Reads a service text, or an author's text in its place.
 pub fn standing(rt: &HostRuntime, input: Input, name: &str) -> Result<Standing, ToolFault> {
     let mut reader = buffered(rt, input)?;
-    commands::standing::read(rt.alloc(), shown_name(name), &mut reader)
+    commands::service_text::read(rt.alloc(), shown_name(name), &mut reader)
 }
 
 // A text, which has a name in lines and comments.

@@ -84,7 +84,7 @@ fn preview_input(
                 status_of(rt, answer),
             ))
         }
-        Standing::Lines(lines) => commands::standing::refuse(&mut writer, lines.as_str()),
+        Standing::Lines(lines) => commands::service_text::refuse(&mut writer, lines.as_str()),
     }
 }
 
@@ -120,7 +120,7 @@ fn preview_all_input(
                 status_of(rt, answer),
             ))
         }
-        Standing::Lines(lines) => commands::standing::refuse(&mut writer, lines.as_str()),
+        Standing::Lines(lines) => commands::service_text::refuse(&mut writer, lines.as_str()),
     }
 }
 

@@ -164,8 +164,15 @@ pub fn run_twice<A: Read, B: Read, C: Read, D: Read, W: Write>(
     let (second, service) = (&mut claim.cycle, &mut claim.service);
     let certificate = &mut claim.certificate;
     if json {
-        let object = objects::AtOnce;
-        match answer_passes(alloc, &object, first, second, service, certificate, writer) {
+        match answer_passes(
+            alloc,
+            &objects::AtOnce,
+            first,
+            second,
+            service,
+            certificate,
+            writer,
+        ) {
             Ok(verdict) => Ok(verdict.status()),
             Err(fault) => Err(ToolFault::Files(fault)),
         }
