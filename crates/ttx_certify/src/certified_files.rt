@@ -28,9 +28,9 @@ impl VerdictWording for AtOnce {
         alloc: Global,
         certificate: &Certificate,
         pages: usize,
-        verdict: Verdict,
+        verdict: &Verdict,
     ) -> Result<String, NoMemory> {
-        verdict_line(alloc, certificate, pages, verdict)
+        verdict_line(alloc, certificate, pages, *verdict)
     }
 }
 
@@ -44,7 +44,7 @@ impl Judge for AtOnce {
         let Ok(verdict) = certify_service(alloc, &inputs.cycle, service, certificate) else {
             return Err(NoMemory);
         };
-        match self.text(alloc, certificate, service.pages().len(), verdict) {
+        match self.text(alloc, certificate, service.pages().len(), &verdict) {
             Ok(line) => Ok(Told { verdict, line }),
             Err(_) => Err(NoMemory),
         }

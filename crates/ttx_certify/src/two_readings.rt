@@ -71,7 +71,7 @@ fn judge_passes<V: VerdictWording, A: Read, B: Read, C: Read, D: Read>(
         Err(fault) => return Err(fault),
     };
     let pages = texts.service.pages().len();
-    match wording.text(alloc, &texts.certificate, pages, verdict) {
+    match wording.text(alloc, &texts.certificate, pages, &verdict) {
         Ok(line) => Ok(Told { verdict, line }),
         Err(_) => Err(FilesFault::NoMemory),
     }

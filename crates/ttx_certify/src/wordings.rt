@@ -10,6 +10,8 @@ use ttx_witness::{Certificate, NoMemory};
 
 /// How a verdict is worded.
 pub trait VerdictWording {
+    ghost use Rattle.ttx_certify.specs.declared.verdict.Verdict.{Verdict};
+
     ghost words: { Self → CertificateFields → ℕ → Verdict → List ℕ };
 
     /// The text of a verdict on `pages` pages.
@@ -18,7 +20,7 @@ pub trait VerdictWording {
         alloc: Global,
         certificate: &Certificate,
         pages: usize,
-        verdict: Verdict,
+        verdict: &Verdict,
     ) -> Result<String, NoMemory>
-        ensures { IfOk result (λ text. string_bytes text ≡ words self.now (fields_of certificate.now) pages verdict) };
+        ensures { IfOk result (λ text. string_bytes text ≡ words self.now (fields_of certificate.now) pages verdict.now) };
 }

@@ -42,9 +42,9 @@ impl VerdictWording for AtOnce {
         alloc: Global,
         certificate: &Certificate,
         pages: usize,
-        verdict: Verdict,
+        verdict: &Verdict,
     ) -> Result<String, NoMemory> {
-        verdict_record(alloc, certificate, pages, verdict).map_err(|_| NoMemory)
+        verdict_record(alloc, certificate, pages, *verdict).map_err(|_| NoMemory)
     }
 }
 
@@ -56,7 +56,7 @@ impl Judge for AtOnce {
     fn judge(&self, alloc: Global, inputs: &Inputs) -> Result<Told<Verdict>, NoMemory> {
         let (service, certificate) = (&inputs.service, &inputs.certificate);
         let verdict = certify_service(alloc, &inputs.cycle, service, certificate)?;
-        let line = self.text(alloc, certificate, service.pages().len(), verdict)?;
+        let line = self.text(alloc, certificate, service.pages().len(), &verdict)?;
         Ok(Told { verdict, line })
     }
 }
