@@ -1,6 +1,6 @@
 //! The lines of `inspect`.
 
-ghost use Rattle.std.specs.Prelude.{◌≡◌, true, [], ◌∷◌, ◌++◌, OnOk, IfOk, codes, map, option_map, string_bytes};
+ghost use Rattle.std.specs.Prelude.{◌≡◌, ◌≤◌, true, [], ◌∷◌, ◌++◌, OnOk, IfOk, codes, map, option_map, string_bytes};
 ghost use Rattle.std.specs.Fmt.{decimal};
 ghost use Rattle.ttx_header.specs.Headers.{is_header, id_of, control_of};
 ghost use Rattle.ttx_links.specs.Sets.{links_of};
@@ -11,7 +11,7 @@ ghost use Rattle.ttx_tool.specs.Lines.{packet_line, slot_line, lines_from};
 
 use crate::texts::{push_date, push_links, push_time};
 use std::alloc::{AllocError, Global};
-use ttx_digits::{push_control, push_decimal, push_digit, push_id};
+use ttx_digits::{push_control, push_decimal, push_id};
 use ttx_header::{Header, read_header};
 use ttx_info::{Info, InfoFault, read_info};
 use ttx_links::{Links, read_links};
@@ -76,15 +76,40 @@ fn push_info(text: &mut String, info: &Result<Info, InfoFault>) -> Result<(), Al
     }
 }
 
+// A magazine, between a space and a slash.
+#[tactic(auto, using(std::proofs::lemmas::Fmt::decimal_digit))]
+fn magazine(mag: u8) -> &'static str
+    requires from { 1 ≤ mag }
+    requires to { mag ≤ 8 }
+    ensures { result.now ≡ 32 ∷ decimal mag ++ 47 ∷ [] }
+{
+    match mag {
+        1 => " 1/",
+        2 => " 2/",
+        3 => " 3/",
+        4 => " 4/",
+        5 => " 5/",
+        6 => " 6/",
+        7 => " 7/",
+        _ => " 8/",
+    }
+}
+
+// Adds the slot's number, the magazine and the packet number.
+#[tactic(auto, using(std::proofs::Common::append_assoc))]
+fn push_address(text: &mut String, slot: usize, at: Address) -> Result<(), AllocError>
+    ensures { OnOk result (string_bytes text.new ≡ string_bytes text.old ++ decimal slot ++ 32 ∷ decimal at.mag ++ 47 ∷ decimal at.number) }
+{
+    push_decimal(text, slot)?;
+    text.push_str(magazine(at.mag))?;
+    push_decimal(text, usize::from(at.number))
+}
+
 // Adds magazine, packet number and kind.
 fn push_packet(text: &mut String, slot: usize, at: Address, kind: &str) -> Result<(), AllocError>
     ensures { OnOk result (string_bytes text.new ≡ string_bytes text.old ++ decimal slot ++ 32 ∷ packet_text at.mag at.number kind.now) }
 {
-    push_decimal(text, slot)?;
-    text.push(' ')?;
-    push_digit(text, at.mag)?;
-    text.push('/')?;
-    push_decimal(text, usize::from(at.number))?;
+    push_address(text, slot, at)?;
     text.push(' ')?;
     text.push_str(kind)
 }
@@ -149,19 +174,13 @@ fn push_info_line(
     end_packet(text, bytes)
 }
 
-// Adds the line of a packet whose fields aren't shown.
-fn push_plain_line(
-    text: &mut String,
-    slot: usize,
-    at: Address,
-    kind: &str,
-    bytes: &[u8; 42],
-) -> Result<(), AllocError>
-    ensures { OnOk result (string_bytes text.new ≡ string_bytes text.old ++ decimal slot ++ 32 ∷ packet_text at.mag at.number kind.now
-        ++ corrected_mark bytes.now ++ 10 ∷ []) }
+// Adds the line of a packet whose fields aren't shown. `end` begins with the space before the kind.
+fn push_plain_line(text: &mut String, slot: usize, at: Address, end: &str) -> Result<(), AllocError>
+    ensures { OnOk result (string_bytes text.new ≡ string_bytes text.old ++ decimal slot ++ 32 ∷ decimal at.mag ++ 47 ∷ decimal at.number
+        ++ end.now) }
 {
-    push_packet(text, slot, at, kind)?;
-    end_packet(text, bytes)
+    push_address(text, slot, at)?;
+    text.push_str(end)
 }
 
 // Adds the line of a slot.
@@ -173,10 +192,12 @@ fn push_line(text: &mut String, slot: usize, bytes: &[u8; 42]) -> Result<(), All
         Slot::Empty => writeln!(text, "{slot} empty"),
         Slot::Unreadable => writeln!(text, "{slot} unreadable"),
         Slot::Header(at, _) => push_header_line(text, slot, at, bytes),
-        Slot::Row(at, _) => push_plain_line(text, slot, at, "row", bytes),
+        Slot::Row(at, _) if clean(bytes) => push_plain_line(text, slot, at, " row\n"),
+        Slot::Row(at, _) => push_plain_line(text, slot, at, " row corrected\n"),
         Slot::Links(at, _) => push_links_line(text, slot, at, bytes),
         Slot::Info(at, _) => push_info_line(text, slot, at, bytes),
-        Slot::Other(at) => push_plain_line(text, slot, at, "other", bytes),
+        Slot::Other(at) if clean(bytes) => push_plain_line(text, slot, at, " other\n"),
+        Slot::Other(at) => push_plain_line(text, slot, at, " other corrected\n"),
     }
 }
 

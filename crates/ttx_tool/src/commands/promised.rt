@@ -1,17 +1,21 @@
 //! What is read of the text of a service with promises, alone and after a packet file.
 
-ghost use Rattle.std.specs.Prelude.{◌∷◌, [], IfSome};
+ghost use Rattle.std.specs.Prelude.{◌≡◌, ◌∷◌, [], IfErr, IfOk, IfSome, codes};
+ghost use Rattle.toml.specs.View.{table_view};
 ghost use Rattle.ttx_cycle.specs.Counters.{inner_of};
 ghost use Rattle.ttx_files.specs.Devices.{AtCycle, AtService};
+ghost use Rattle.ttx_source.specs.Promises.{promises_of};
+ghost use Rattle.ttx_source.specs.Services.{service_of};
 ghost use Rattle.ttx_tool.specs.Devices.{Reads, read_from};
-ghost use Rattle.ttx_tool.specs.Promised.{DefinesPromised, ReadsPromised, ReadsPromisedInputs};
+ghost use Rattle.ttx_tool.specs.Promised.{IsDocumentOf, IsDocumentFault, DefinesBy, DefinesPromised, ReadsPromised, ReadsPromisedInputs};
 
 use crate::faults::ToolFault;
 use std::alloc::Global;
 use std::io::Read;
+use toml::Table;
 use ttx_cycle::{Counted, Cycle};
 use ttx_files::{FilesFault, read_packets, read_service_text};
-use ttx_source::{Promise, Service, SourceError, read_promises, read_service};
+use ttx_source::{Promise, Service, SourceError, SourceFault, promises_of_table, service_of_table};
 
 /// A service, and its promises.
 #[derive(Drop)]
@@ -27,18 +31,43 @@ pub(super) struct PromisedInputs {
     pub promised: Promised,
 }
 
+// No document is read of a text.
+fn unread(fault: SourceFault) -> SourceError
+    ensures { result ≡ record { fault = fault; page = 0 } }
+{
+    SourceError { fault, page: 0 }
+}
+
+/// The table of a text, from which the service, its promises and its stays are read.
+pub(super) fn document(alloc: Global, bytes: &[u8]) -> Result<Table, SourceError>
+    ensures read { IfOk result (λ table. IsDocumentOf bytes.now (table_view table)) }
+    ensures fault { IfErr result (λ error. IsDocumentFault bytes.now error) }
+{
+    let Ok(text) = std::str::from_utf8(bytes) else {
+        return Err(unread(SourceFault::NotToml));
+    };
+    match toml::table_from_str(alloc, text) {
+        Ok(table) => Ok(table),
+        Err(error) if error.is_memory() => Err(unread(SourceFault::NoMemory)),
+        Err(_) => Err(unread(SourceFault::NotToml)),
+    }
+}
+
+/// The service and the promises in the table of a text.
+pub(super) fn define_table(alloc: Global, table: &Table) -> Result<Promised, SourceError>
+    ensures { DefinesBy (service_of (table_view table.now)) (promises_of (codes "within") (table_view table.now)) result }
+{
+    let service = service_of_table(alloc, table)?;
+    let promises = promises_of_table(alloc, table)?;
+    Ok(Promised { service, promises })
+}
+
 /// The service and the promises of a text.
 pub(super) fn define(alloc: Global, text: &[u8]) -> Result<Promised, SourceError>
     ensures { DefinesPromised text.now result }
 {
-    let service = match read_service(alloc, text) {
-        Ok(service) => service,
-        Err(error) => return Err(error),
-    };
-    match read_promises(alloc, text) {
-        Ok(promises) => Ok(Promised { service, promises }),
-        Err(error) => Err(error),
-    }
+    let table = document(alloc, text)?;
+    define_table(alloc, &table)
 }
 
 /// Reads the text of a service with its promises. A fault of the service comes before one of the promises.
