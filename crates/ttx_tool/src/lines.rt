@@ -174,13 +174,19 @@ fn push_info_line(
     end_packet(text, bytes)
 }
 
-// Adds the line of a packet whose fields aren't shown. `end` begins with the space before the kind.
-fn push_plain_line(text: &mut String, slot: usize, at: Address, end: &str) -> Result<(), AllocError>
-    ensures { OnOk result (string_bytes text.new ≡ string_bytes text.old ++ decimal slot ++ 32 ∷ decimal at.mag ++ 47 ∷ decimal at.number
-        ++ end.now) }
+// Adds the line of a packet whose fields aren't shown.
+fn push_plain_line(
+    text: &mut String,
+    slot: usize,
+    at: Address,
+    kind: &str,
+    bytes: &[u8; 42],
+) -> Result<(), AllocError>
+    ensures { OnOk result (string_bytes text.new ≡ string_bytes text.old ++ decimal slot ++ 32 ∷ packet_text at.mag at.number kind.now
+        ++ corrected_mark bytes.now ++ 10 ∷ []) }
 {
-    push_address(text, slot, at)?;
-    text.push_str(end)
+    push_packet(text, slot, at, kind)?;
+    end_packet(text, bytes)
 }
 
 // Adds the line of a slot.
@@ -192,12 +198,10 @@ fn push_line(text: &mut String, slot: usize, bytes: &[u8; 42]) -> Result<(), All
         Slot::Empty => writeln!(text, "{slot} empty"),
         Slot::Unreadable => writeln!(text, "{slot} unreadable"),
         Slot::Header(at, _) => push_header_line(text, slot, at, bytes),
-        Slot::Row(at, _) if clean(bytes) => push_plain_line(text, slot, at, " row\n"),
-        Slot::Row(at, _) => push_plain_line(text, slot, at, " row corrected\n"),
+        Slot::Row(at, _) => push_plain_line(text, slot, at, "row", bytes),
         Slot::Links(at, _) => push_links_line(text, slot, at, bytes),
         Slot::Info(at, _) => push_info_line(text, slot, at, bytes),
-        Slot::Other(at) if clean(bytes) => push_plain_line(text, slot, at, " other\n"),
-        Slot::Other(at) => push_plain_line(text, slot, at, " other corrected\n"),
+        Slot::Other(at) => push_plain_line(text, slot, at, "other", bytes),
     }
 }
 

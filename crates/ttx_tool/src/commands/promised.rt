@@ -31,25 +31,27 @@ pub(super) struct PromisedInputs {
     pub promised: Promised,
 }
 
-// No document is read of a text.
-fn unread(fault: SourceFault) -> SourceError
-    ensures { result ≡ record { fault = fault; page = 0 } }
-{
-    SourceError { fault, page: 0 }
-}
-
 /// The table of a text, from which the service, its promises and its stays are read.
 pub(super) fn document(alloc: Global, bytes: &[u8]) -> Result<Table, SourceError>
     ensures read { IfOk result (λ table. IsDocumentOf bytes.now (table_view table)) }
     ensures fault { IfErr result (λ error. IsDocumentFault bytes.now error) }
 {
     let Ok(text) = std::str::from_utf8(bytes) else {
-        return Err(unread(SourceFault::NotToml));
+        return Err(SourceError {
+            fault: SourceFault::NotToml,
+            page: 0,
+        });
     };
     match toml::table_from_str(alloc, text) {
         Ok(table) => Ok(table),
-        Err(error) if error.is_memory() => Err(unread(SourceFault::NoMemory)),
-        Err(_) => Err(unread(SourceFault::NotToml)),
+        Err(error) if error.is_memory() => Err(SourceError {
+            fault: SourceFault::NoMemory,
+            page: 0,
+        }),
+        Err(_) => Err(SourceError {
+            fault: SourceFault::NotToml,
+            page: 0,
+        }),
     }
 }
 
