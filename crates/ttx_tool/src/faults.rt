@@ -35,6 +35,17 @@ pub enum ToolFault {
     Feed,
 }
 
+impl From<FilesFault> for ToolFault {
+    ghost use Rattle.std.specs.Prelude.{◌≡◌};
+    ghost use Rattle.ttx_tool.specs.declared.faults.ToolFault.TheVariants.{Files};
+
+    ghost from_gives = { λ fault tool. tool ≡ Files fault };
+
+    fn from(fault: FilesFault) -> ToolFault {
+        ToolFault::Files(fault)
+    }
+}
+
 /// Why `extract` writes nothing. The refusals of a cycle stand apart from all other faults.
 #[derive(Clone, Copy)]
 pub enum ExtractionFault {

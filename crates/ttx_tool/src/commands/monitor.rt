@@ -1,33 +1,21 @@
 //! `monitor`: whether what a receiver got of a cycle stays within the error rule, by bytes or by rows.
 
-ghost use Rattle.std.specs.Prelude.{◌≡◌, ◌∷◌, [], false, IfSome, true};
+ghost use Rattle.std.specs.Prelude.{◌∷◌, [], IfSome};
 ghost use Rattle.ttx_certificate.specs.Certificates.{fields_of};
 ghost use Rattle.ttx_cycle.specs.Counters.{inner_of};
 ghost use Rattle.ttx_cycle.specs.Cycles.{slots_of};
 ghost use Rattle.ttx_files.specs.Answers.{IsUntouched};
 ghost use Rattle.ttx_files.specs.Devices.{AtCycle, AtService, AtCertificate, AtFeed};
 ghost use Rattle.ttx_tool.specs.Devices.{is_tool_write, Fails, Reads, read_from, written_to};
-ghost use Rattle.ttx_tool.specs.Monitor.{feed_status, IsTelling, IsFaultOfFeed, TellsFeed, MonitorsText, Monitors, MeansReceived};
+ghost use Rattle.ttx_tool.specs.Monitor.{IsTelling, IsFaultOfFeed, TellsFeed, MonitorsText, Monitors, MeansReceived};
 
-use super::monitor_json;
-use super::monitor_rows::tell_rows;
+use super::feed_verdicts::{tell_bytes, tell_bytes_json, tell_rows, tell_rows_json};
 use super::reports::write_text;
 use crate::faults::ToolFault;
 use std::alloc::Global;
 use std::io::{Read, Write};
 use ttx_cycle::Counted;
-use ttx_files::{FeedFault, FilesFault, Inputs, Told, read_inputs};
-use ttx_monitor::{FeedVerdict, monitor_feed};
-
-/// 0 for a yes, 1 for a no.
-pub(super) fn feed_status(verdict: FeedVerdict) -> u8
-    ensures { result ≡ feed_status verdict }
-{
-    match verdict {
-        FeedVerdict::Yes { .. } => 0,
-        FeedVerdict::Unlike(_) | FeedVerdict::No { .. } | FeedVerdict::Shifted { .. } => 1,
-    }
-}
+use ttx_files::{Inputs, Told, read_inputs};
 
 /// How a feed is judged: from which slot of the cycle on, if that is named, and whether by rows; and whether the verdict is a JSON object.
 #[derive(Clone, Copy)]
@@ -37,67 +25,7 @@ pub struct Judged {
     pub json: bool,
 }
 
-// The text of the verdict on a feed by bytes, and its status.
-fn tell_bytes<R: Read>(
-    alloc: Global,
-    inputs: &Inputs,
-    named: Option<u32>,
-    feed: &mut Counted<R>,
-) -> Result<Told<u8>, ToolFault>
-    ensures bytes { IfSome (R.remaining (inner_of feed.old)) (λ d. TellsFeed
-        (IsTelling false false (slots_of inputs.now.cycle) inputs.now.service (fields_of inputs.now.certificate) named d) result) }
-    ensures own { IsFaultOfFeed result }
-    ensures faults { Fails (read_from AtFeed R.remaining feed.old feed.new ∷ []) result }
-{
-    match monitor_feed(alloc, inputs, named, feed) {
-        Ok(told) => Ok(Told {
-            verdict: feed_status(told.verdict),
-            line: told.line,
-        }),
-        Err(FeedFault::Read) => Err(ToolFault::Feed),
-        Err(FeedFault::NoMemory) => Err(ToolFault::Files(FilesFault::NoMemory)),
-    }
-}
-
-// The same as lines or as an object.
-fn tell_by_bytes<R: Read>(
-    alloc: Global,
-    inputs: &Inputs,
-    how: Judged,
-    feed: &mut Counted<R>,
-) -> Result<Told<u8>, ToolFault>
-    ensures bytes { IfSome (R.remaining (inner_of feed.old)) (λ d. TellsFeed
-        (IsTelling how.json false (slots_of inputs.now.cycle) inputs.now.service (fields_of inputs.now.certificate) how.start d) result) }
-    ensures own { IsFaultOfFeed result }
-    ensures faults { Fails (read_from AtFeed R.remaining feed.old feed.new ∷ []) result }
-{
-    if how.json {
-        monitor_json::tell_bytes(alloc, inputs, how.start, feed)
-    } else {
-        tell_bytes(alloc, inputs, how.start, feed)
-    }
-}
-
-// The same by rows.
-fn tell_by_rows<R: Read>(
-    alloc: Global,
-    inputs: &Inputs,
-    how: Judged,
-    feed: &mut Counted<R>,
-) -> Result<Told<u8>, ToolFault>
-    ensures bytes { IfSome (R.remaining (inner_of feed.old)) (λ d. TellsFeed
-        (IsTelling how.json true (slots_of inputs.now.cycle) inputs.now.service (fields_of inputs.now.certificate) how.start d) result) }
-    ensures own { IsFaultOfFeed result }
-    ensures faults { Fails (read_from AtFeed R.remaining feed.old feed.new ∷ []) result }
-{
-    if how.json {
-        monitor_json::tell_rows(alloc, inputs, how.start, feed)
-    } else {
-        tell_rows(alloc, inputs, how.start, feed)
-    }
-}
-
-// The same by the rule that is asked for.
+// The verdict on a feed by the rule and in the form that are asked for, and its status.
 fn tell<R: Read>(
     alloc: Global,
     inputs: &Inputs,
@@ -109,10 +37,16 @@ fn tell<R: Read>(
     ensures own { IsFaultOfFeed result }
     ensures faults { Fails (read_from AtFeed R.remaining feed.old feed.new ∷ []) result }
 {
-    if how.by_rows {
-        tell_by_rows(alloc, inputs, how, feed)
-    } else {
-        tell_by_bytes(alloc, inputs, how, feed)
+    let Judged {
+        start,
+        by_rows,
+        json,
+    } = how;
+    match (json, by_rows) {
+        (false, false) => tell_bytes(alloc, inputs, start, feed),
+        (false, true) => tell_rows(alloc, inputs, start, feed),
+        (true, false) => tell_bytes_json(alloc, inputs, start, feed),
+        (true, true) => tell_rows_json(alloc, inputs, start, feed),
     }
 }
 

@@ -11,7 +11,7 @@ ghost use Rattle.ttx_certificate.specs.Certificates.{certificate_of};
 ghost use Rattle.ttx_tool.specs.Devices.{Fails, read_from, written_to};
 ghost use Rattle.ttx_tool.specs.MonitorReports.{report_status, report_words, IsReportedAs, MonitorsLines, MeansReported};
 
-use super::monitor::feed_status;
+use super::feed_verdicts::feed_status;
 use crate::faults::ToolFault;
 use std::alloc::Global;
 use std::io::{Read, Write};
