@@ -1,8 +1,9 @@
 //! Why a command fails.
 
+use std::alloc::AllocError;
 use ttx_counter::CounterFault;
 use ttx_extract::ExtractFault;
-use ttx_files::FilesFault;
+use ttx_files::{FeedFault, FilesFault};
 use ttx_plan::PlanFault;
 
 /// Why the text of a counter-run isn't read.
@@ -33,6 +34,32 @@ pub enum ToolFault {
     Counter(CounterFileFault),
     /// 12. A read of a feed failed.
     Feed,
+}
+
+impl From<AllocError> for ToolFault {
+    ghost use Rattle.std.specs.Prelude.{◌≡◌};
+    ghost use Rattle.ttx_files.specs.declared.faults.FilesFault.TheVariants.{NoMemory};
+    ghost use Rattle.ttx_tool.specs.declared.faults.ToolFault.TheVariants.{Files};
+
+    ghost from_gives = { λ fault tool. tool ≡ Files NoMemory };
+
+    fn from(_fault: AllocError) -> ToolFault {
+        ToolFault::Files(FilesFault::NoMemory)
+    }
+}
+
+impl From<FeedFault> for ToolFault {
+    ghost use Rattle.std.specs.Prelude.{◌≡◌};
+    ghost use Rattle.ttx_tool.specs.Answers.{of_feed};
+
+    ghost from_gives = { λ fault tool. tool ≡ of_feed fault };
+
+    fn from(fault: FeedFault) -> ToolFault {
+        match fault {
+            FeedFault::Read => ToolFault::Feed,
+            FeedFault::NoMemory => ToolFault::Files(FilesFault::NoMemory),
+        }
+    }
 }
 
 impl From<FilesFault> for ToolFault {

@@ -30,8 +30,6 @@ pub fn run<R: Read, O: Write>(
     ensures faults { Fails (read_from AtCycle R.remaining reader.old reader.new ∷ written_to file.old file.new ∷ []) result }
     ensures untouched { IsUntouched is_tool_write result file.old file.new }
 {
-    match book(alloc, reader, file) {
-        Ok(()) => Ok(0),
-        Err(fault) => Err(ToolFault::Files(fault)),
-    }
+    book(alloc, reader, file)?;
+    Ok(0)
 }

@@ -104,10 +104,8 @@ where
     ensures untouched { IsUntouched is_tool_write result writer.old writer.new }
 {
     let (cycle, service) = (&mut claim.cycle, &mut claim.service);
-    match answer_files(alloc, judge, cycle, service, &mut claim.certificate, writer) {
-        Ok(verdict) => Ok(verdict.status()),
-        Err(fault) => Err(ToolFault::Files(fault)),
-    }
+    let verdict = answer_files(alloc, judge, cycle, service, &mut claim.certificate, writer)?;
+    Ok(verdict.status())
 }
 
 /// Reads a packet file, the text of a service and that of a certificate, in this order, certifies the pages of the service, and writes the

@@ -33,8 +33,5 @@ pub fn run<R: Read, W: Write>(
     ensures faults { Fails (input AtService None (faults_of reader.old) (faults_of reader.new) ∷ written_to writer.old writer.new ∷ []) result }
     ensures untouched { IsUntouched is_tool_write result writer.old writer.new }
 {
-    match check_file(alloc, style, reader, writer) {
-        Ok(status) => Ok(status),
-        Err(fault) => Err(ToolFault::Files(fault)),
-    }
+    Ok(check_file(alloc, style, reader, writer)?)
 }

@@ -35,8 +35,5 @@ pub fn run<R: Read, W: Write>(
         ∷ output (faults_of writer.old) (faults_of writer.new) ∷ []) result }
     ensures untouched { IsUntouched is_tool_write result writer.old writer.new }
 {
-    match check_file_json(alloc, file, strict, reader, writer) {
-        Ok(status) => Ok(status),
-        Err(fault) => Err(ToolFault::Files(fault)),
-    }
+    Ok(check_file_json(alloc, file, strict, reader, writer)?)
 }

@@ -34,8 +34,5 @@ pub fn run<R: Read, O: Write, W: Write>(
         ∷ written_to writer.old writer.new ∷ []) result }
     ensures untouched { IsUntouched is_tool_write result file.old file.new × IsUntouched is_tool_write result writer.old writer.new }
 {
-    match compose_file(alloc, name, reader, file, writer) {
-        Ok(status) => Ok(status),
-        Err(fault) => Err(ToolFault::Files(fault)),
-    }
+    Ok(compose_file(alloc, name, reader, file, writer)?)
 }

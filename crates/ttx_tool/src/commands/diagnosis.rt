@@ -12,7 +12,6 @@ use crate::faults::ToolFault;
 use std::alloc::{AllocError, Global};
 use std::io::Write;
 use ttx_cycle::Counted;
-use ttx_files::FilesFault;
 use ttx_recognition::{Unlike, push_unlike, recognise};
 
 // The line.
@@ -41,8 +40,6 @@ pub fn run<W: Write>(
     let Some(unlike) = recognise(bytes) else {
         return Ok(status);
     };
-    let Ok(line) = unlike_line(alloc, unlike) else {
-        return Err(ToolFault::Files(FilesFault::NoMemory));
-    };
+    let line = unlike_line(alloc, unlike)?;
     write_text(writer, line.as_str(), 1)
 }

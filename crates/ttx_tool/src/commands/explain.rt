@@ -10,7 +10,6 @@ use crate::faults::ToolFault;
 use std::alloc::Global;
 use std::io::Write;
 use ttx_cycle::Counted;
-use ttx_files::FilesFault;
 use ttx_reasons::{Entry, explain};
 
 /// Writes what a reason of the table means and what to do, by its number or its name: the status is 0. For any other word it writes the
@@ -27,9 +26,7 @@ pub fn run<W: Write, E: Write>(
         (E.contents (inner_of errors.old)) (E.contents (inner_of errors.new)) result }
     ensures faults { Fails (written_to writer.old writer.new ∷ written_to errors.old errors.new ∷ []) result }
 {
-    let Ok(explained) = explain(alloc, table, reason) else {
-        return Err(ToolFault::Files(FilesFault::NoMemory));
-    };
+    let explained = explain(alloc, table, reason)?;
     if explained.known {
         write_text(writer, explained.text.as_str(), 0)
     } else {

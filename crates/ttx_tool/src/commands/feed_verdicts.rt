@@ -13,7 +13,7 @@ use std::alloc::Global;
 use std::io::Read;
 use ttx_cycle::Counted;
 use ttx_feed_records::{monitor_feed_json, monitor_rows_json};
-use ttx_files::{FeedFault, FilesFault, Inputs, Told};
+use ttx_files::{Inputs, Told};
 use ttx_monitor::{FeedVerdict, monitor_feed};
 use ttx_row_monitor::{RowVerdict, monitor_rows};
 
@@ -49,14 +49,11 @@ pub(super) fn tell_bytes<R: Read>(
     ensures own { IsFaultOfFeed result }
     ensures faults { Fails (read_from AtFeed R.remaining feed.old feed.new ∷ []) result }
 {
-    match monitor_feed(alloc, inputs, named, feed) {
-        Ok(told) => Ok(Told {
-            verdict: feed_status(told.verdict),
-            line: told.line,
-        }),
-        Err(FeedFault::Read) => Err(ToolFault::Feed),
-        Err(FeedFault::NoMemory) => Err(ToolFault::Files(FilesFault::NoMemory)),
-    }
+    let told = monitor_feed(alloc, inputs, named, feed)?;
+    Ok(Told {
+        verdict: feed_status(told.verdict),
+        line: told.line,
+    })
 }
 
 /// The text of the verdict on a feed by rows, and its status.
@@ -71,14 +68,11 @@ pub(super) fn tell_rows<R: Read>(
     ensures own { IsFaultOfFeed result }
     ensures faults { Fails (read_from AtFeed R.remaining feed.old feed.new ∷ []) result }
 {
-    match monitor_rows(alloc, inputs, named, feed) {
-        Ok(told) => Ok(Told {
-            verdict: row_status(told.verdict),
-            line: told.line,
-        }),
-        Err(FeedFault::Read) => Err(ToolFault::Feed),
-        Err(FeedFault::NoMemory) => Err(ToolFault::Files(FilesFault::NoMemory)),
-    }
+    let told = monitor_rows(alloc, inputs, named, feed)?;
+    Ok(Told {
+        verdict: row_status(told.verdict),
+        line: told.line,
+    })
 }
 
 /// The object of the verdict on a feed by bytes, and its status.
@@ -93,14 +87,11 @@ pub(super) fn tell_bytes_json<R: Read>(
     ensures own { IsFaultOfFeed result }
     ensures faults { Fails (read_from AtFeed R.remaining feed.old feed.new ∷ []) result }
 {
-    match monitor_feed_json(alloc, inputs, named, feed) {
-        Ok(told) => Ok(Told {
-            verdict: feed_status(told.verdict),
-            line: told.line,
-        }),
-        Err(FeedFault::Read) => Err(ToolFault::Feed),
-        Err(FeedFault::NoMemory) => Err(ToolFault::Files(FilesFault::NoMemory)),
-    }
+    let told = monitor_feed_json(alloc, inputs, named, feed)?;
+    Ok(Told {
+        verdict: feed_status(told.verdict),
+        line: told.line,
+    })
 }
 
 /// The object of the verdict on a feed by rows, and its status.
@@ -115,12 +106,9 @@ pub(super) fn tell_rows_json<R: Read>(
     ensures own { IsFaultOfFeed result }
     ensures faults { Fails (read_from AtFeed R.remaining feed.old feed.new ∷ []) result }
 {
-    match monitor_rows_json(alloc, inputs, named, feed) {
-        Ok(told) => Ok(Told {
-            verdict: row_status(told.verdict),
-            line: told.line,
-        }),
-        Err(FeedFault::Read) => Err(ToolFault::Feed),
-        Err(FeedFault::NoMemory) => Err(ToolFault::Files(FilesFault::NoMemory)),
-    }
+    let told = monitor_rows_json(alloc, inputs, named, feed)?;
+    Ok(Told {
+        verdict: row_status(told.verdict),
+        line: told.line,
+    })
 }

@@ -133,10 +133,7 @@ pub fn run<A: Read, B: Read, O: Write, W: Write>(
         ∷ written_to file.old file.new ∷ written_to writer.old writer.new ∷ []) result }
     ensures untouched { IsUntouched is_tool_write result file.old file.new × IsUntouched is_tool_write result writer.old writer.new }
 {
-    let told = match find_text(alloc, cycle, service, asked) {
-        Ok(told) => told,
-        Err(fault) => return Err(fault),
-    };
+    let told = find_text(alloc, cycle, service, asked)?;
     match write_both(file, told.file.as_slice(), writer, told.line.as_bytes()) {
         Ok(()) => Ok(told.verdict),
         Err(fault) => Err(ToolFault::Files(fault)),

@@ -12,7 +12,7 @@ use crate::lines::lines;
 use std::alloc::Global;
 use std::io::{Read, Write};
 use ttx_cycle::Counted;
-use ttx_files::{FilesFault, read_packets, write_line};
+use ttx_files::{read_packets, write_line};
 
 /// Reads a packet file and writes a line for each of its slots.
 ///
@@ -28,15 +28,7 @@ pub fn run<R: Read, W: Write>(
     ensures faults { Fails (read_from AtCycle R.remaining reader.old reader.new ∷ written_to writer.old writer.new ∷ []) result }
     ensures untouched { IsUntouched is_tool_write result writer.old writer.new }
 {
-    let cycle = match read_packets(alloc, reader) {
-        Ok(cycle) => cycle,
-        Err(fault) => return Err(ToolFault::Files(fault)),
-    };
-    let Ok(text) = lines(alloc, cycle.slots()) else {
-        return Err(ToolFault::Files(FilesFault::NoMemory));
-    };
-    match write_line(writer, text.as_bytes()) {
-        Ok(()) => Ok(()),
-        Err(fault) => Err(ToolFault::Files(fault)),
-    }
+    let cycle = read_packets(alloc, reader)?;
+    let text = lines(alloc, cycle.slots())?;
+    Ok(write_line(writer, text.as_bytes())?)
 }

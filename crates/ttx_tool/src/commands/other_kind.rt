@@ -13,7 +13,6 @@ use crate::faults::ToolFault;
 use std::alloc::{AllocError, Global};
 use std::io::Write;
 use ttx_cycle::Counted;
-use ttx_files::FilesFault;
 use ttx_kinds::{Place, push_other};
 
 // The line, or no text.
@@ -40,8 +39,6 @@ pub fn run<W: Write>(
     ensures faults { Fails (output (faults_of writer.old) (faults_of writer.new) ∷ []) result }
     ensures untouched { IsUntouched is_tool_write result writer.old writer.new }
 {
-    let Ok(line) = told_line(alloc, place, bytes) else {
-        return Err(ToolFault::Files(FilesFault::NoMemory));
-    };
+    let line = told_line(alloc, place, bytes)?;
     write_text(writer, line.as_str(), status)
 }

@@ -31,10 +31,8 @@ pub fn run<R: Read, W: Write>(
     ensures faults { Fails (read_from AtCycle R.remaining reader.old reader.new ∷ written_to writer.old writer.new ∷ []) result }
     ensures untouched { IsUntouched is_tool_write result writer.old writer.new }
 {
-    match pages(alloc, reader, writer) {
-        Ok(()) => Ok(0),
-        Err(fault) => Err(ToolFault::Files(fault)),
-    }
+    pages(alloc, reader, writer)?;
+    Ok(0)
 }
 
 /// The same as JSON objects with the names and values of the lines.
@@ -48,8 +46,6 @@ pub fn run_json<R: Read, W: Write>(
     ensures faults { Fails (read_from AtCycle R.remaining reader.old reader.new ∷ written_to writer.old writer.new ∷ []) result }
     ensures untouched { IsUntouched is_tool_write result writer.old writer.new }
 {
-    match pages_json(alloc, reader, writer) {
-        Ok(()) => Ok(0),
-        Err(fault) => Err(ToolFault::Files(fault)),
-    }
+    pages_json(alloc, reader, writer)?;
+    Ok(0)
 }

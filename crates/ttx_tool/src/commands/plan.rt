@@ -11,7 +11,7 @@ use crate::faults::ToolFault;
 use std::alloc::{AllocError, Global};
 use std::io::{Read, Write};
 use ttx_cycle::{Counted, Cycle};
-use ttx_files::{FilesFault, read_definition, write_both};
+use ttx_files::{read_definition, write_both};
 use ttx_plan::{Receivers, plan_with};
 
 // The cycle that carries the service of a text.
@@ -59,16 +59,9 @@ pub fn run<R: Read, O: Write, W: Write>(
         ∷ []) result }
     ensures untouched { IsUntouched is_tool_write result file.old file.new × IsUntouched is_tool_write result writer.old writer.new }
 {
-    let cycle = match plan_text(alloc, reader, receivers) {
-        Ok(cycle) => cycle,
-        Err(fault) => return Err(fault),
-    };
+    let cycle = plan_text(alloc, reader, receivers)?;
     let slots = cycle.slots();
-    let Ok(line) = planned_line(alloc, slots.len()) else {
-        return Err(ToolFault::Files(FilesFault::NoMemory));
-    };
-    match write_both(file, slots.as_flattened(), writer, line.as_bytes()) {
-        Ok(()) => Ok(0),
-        Err(fault) => Err(ToolFault::Files(fault)),
-    }
+    let line = planned_line(alloc, slots.len())?;
+    write_both(file, slots.as_flattened(), writer, line.as_bytes())?;
+    Ok(0)
 }

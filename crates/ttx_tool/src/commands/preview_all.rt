@@ -65,10 +65,7 @@ fn preview_service<R: Read>(
     ensures bytes { IfSome (R.remaining (inner_of reader.old)) (λ bytes. PreviewsText bytes form reveal result) }
     ensures faults { Fails (input AtService None (faults_of reader.old) (faults_of reader.new) ∷ []) result }
 {
-    let text = match read_service_text(alloc, reader) {
-        Ok(text) => text,
-        Err(fault) => return Err(ToolFault::Files(fault)),
-    };
+    let text = read_service_text(alloc, reader)?;
     match text_shown(alloc, text.as_slice(), form, reveal) {
         Ok(preview) => Ok(preview),
         Err(_) => Err(ToolFault::Files(FilesFault::NoMemory)),
@@ -92,9 +89,6 @@ pub fn run<R: Read, W: Write>(
     ensures faults { Fails (input AtService None (faults_of reader.old) (faults_of reader.new) ∷ written_to writer.old writer.new ∷ []) result }
     ensures untouched { IsUntouched is_tool_write result writer.old writer.new }
 {
-    let preview = match preview_service(alloc, reader, form, reveal) {
-        Ok(preview) => preview,
-        Err(fault) => return Err(fault),
-    };
+    let preview = preview_service(alloc, reader, form, reveal)?;
     write_text(writer, preview.line.as_str(), preview.verdict)
 }

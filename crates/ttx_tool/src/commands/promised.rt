@@ -100,10 +100,7 @@ pub(super) fn read_promised_inputs<A: Read, B: Read>(
         (λ a. IfSome (B.remaining (inner_of service.old)) (λ b. ReadsPromisedInputs a b result)) }
     ensures faults { Reads (read_from AtCycle A.remaining cycle.old cycle.new ∷ read_from AtService B.remaining service.old service.new ∷ []) result }
 {
-    let cycle = match read_packets(alloc, cycle) {
-        Ok(cycle) => cycle,
-        Err(fault) => return Err(ToolFault::Files(fault)),
-    };
+    let cycle = read_packets(alloc, cycle)?;
     match read_promised(alloc, service) {
         Ok(promised) => Ok(PromisedInputs { cycle, promised }),
         Err(fault) => Err(fault),

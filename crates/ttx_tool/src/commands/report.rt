@@ -184,10 +184,7 @@ pub fn run<A: Read, B: Read, C: Read, W: Write>(
         ∷ read_from AtCertificate C.remaining certificate.old certificate.new ∷ written_to writer.old writer.new ∷ []) result }
     ensures untouched { IsUntouched is_tool_write result writer.old writer.new }
 {
-    let told = match report_text(alloc, cycle, service, certificate, date) {
-        Ok(told) => told,
-        Err(fault) => return Err(fault),
-    };
+    let told = report_text(alloc, cycle, service, certificate, date)?;
     write_text(writer, told.line.as_str(), told.verdict)
 }
 

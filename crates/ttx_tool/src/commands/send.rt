@@ -32,10 +32,7 @@ pub fn run<C: Clock, R: Read, W: Write>(
     ensures faults { Fails (read_from AtCycle R.remaining reader.old reader.new ∷ written_to writer.old writer.new ∷ []) result }
     ensures untouched { IsUntouched is_tool_write result writer.old writer.new }
 {
-    let cycle = match read_packets(alloc, reader) {
-        Ok(cycle) => cycle,
-        Err(fault) => return Err(ToolFault::Files(fault)),
-    };
+    let cycle = read_packets(alloc, reader)?;
     let lines = sending.lines.count();
     match ttx_send::send(&cycle, clock, lines, sending.phase, sending.fields, writer) {
         Ok(()) => Ok(()),

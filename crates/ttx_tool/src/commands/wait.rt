@@ -317,9 +317,6 @@ pub fn run<A: Read, B: Read, W: Write>(
         ∷ written_to writer.old writer.new ∷ []) result }
     ensures untouched { IsUntouched is_tool_write result writer.old writer.new }
 {
-    let told = match wait_text(alloc, cycle, service, question) {
-        Ok(told) => told,
-        Err(fault) => return Err(fault),
-    };
+    let told = wait_text(alloc, cycle, service, question)?;
     write_text(writer, told.line.as_str(), told.verdict)
 }
