@@ -1,4 +1,5 @@
--- The text of a certificate is read as the certificate.
+-- The text of a certificate is read as the certificate. free s xs: the byte s is not in xs; 10 ends a line, and 32 a word. NAME_free: the text
+-- of NAME has neither; NAME_read: it is read back.
 use Rattle.std.proofs.Common.{◌≡◌, ℕ, ◌+◌, ◌/◌, ◌%◌, ◌<◌, ◌≤◌, ◌==◌, Bool, true, not, ◌&&◌, ◌++◌, List, [], ◌∷◌}
 use Rattle.std.proofs.Common.{map, codes, Option, Some, None, option_map, Ok, Err, if◌then◌else◌, nat_lt, nat_le, refl, sym, ap}
 use Rattle.std.proofs.Common.{◌∙◌, arith, append_assoc, append-nil, eq-eqb}

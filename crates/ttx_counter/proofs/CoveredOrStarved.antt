@@ -11,17 +11,16 @@ use Rattle.ttx_page.proofs.SlotDistances.{cases_ltz}
 use Rattle.ttx_page.specs.Pages.{Page}
 use Rattle.ttx_page.specs.declared.item.Item.{Item}
 use Rattle.ttx_page.specs.declared.item.Item.TheVariants.{Head as TheHead, Row as TheRow, Links as TheLinks}
-use Rattle.ttx_page.specs.Streams.{Stream, repeated, turned, run_length, IsOwned, IsRun, HasSureRun, EndsBelow, IsSent}
+use Rattle.ttx_page.specs.Streams.{Stream, repeated, turned, run_length, IsOwned, IsSure, IsRun, HasSureRun, EndsBelow, IsSent}
 use Rattle.ttx_page.specs.Laws.{EachSlotTurns, StreamsMove, CyclesRepeat, OwnersAreUnique, OwnersDontFall, RunsRise}
 use Rattle.ttx_witness.specs.runs.Confirming.{Rising, late_after}
 use Rattle.ttx_witness.specs.declared.runs.confirmation.Progress.{Progress}
-use Rattle.ttx_witness.specs.runs.Repeating.{IsLate, IsFirst, next_start}
+use Rattle.ttx_witness.specs.runs.Repeating.{BeginsSureRun, RunEndsBelow, IsLate, IsFirst, next_start}
 use Rattle.ttx_witness.specs.Coverage.{Certificate, limit, IsSureStart, IsCovered}
 use Rattle.ttx_witness.specs.laws.CycleLaws.{CoverageIsDecided, FirstsAreFound, progress_of}
 use Rattle.ttx_counter.specs.Starving.{NamesAll, Starves}
 use Rattle.ttx_counter.specs.Completeness.{CoveredOrStarved}
 use Rattle.ttx_counter.proofs.NextNamedStarts.{next_at_most}
-use Rattle.ttx_counter.proofs.RepeatedTransmissions.{sure_run_to, ends_to}
 
 -- the laws that are cited
 pub record DecidingLaws : Type 0 where
@@ -119,7 +118,7 @@ module _ (laws : DecidingLaws) (cycle : List (List ℕ)) (some : 0 < length cycl
           (named_at x.first (sure_of _ _ x)) in
           let e : (late.owner +ℤ pos 1) +ℤ pos (limit w) ≡ end = omega (arith, ints) in
           let ends = subst (λ z. AllByRecursion (λ j. j <ℤ z) (x.first ∷ x.rest)) e x.ends in
-          late.late (ends_to s p.id w.lines w.repeat item (suc k) len next end
+          late.late (subst (λ z. RunEndsBelow (IsOwned s p.id item) z next end) len
           (elim (cases_ltz next x.first) as (λ _. EndsBelow s p.id w.repeat item next end) [
             | inl lt ↦
                 let run = run_at_next i late.within in
@@ -155,7 +154,7 @@ module _ (laws : DecidingLaws) (cycle : List (List ℕ)) (some : 0 < length cycl
         | inl less ↦
             let bad = (f.1 less).0 in
             let here = start_at m.next less in
-            absurd (bad.bad (here.0, sure_run_to s p.id w.lines w.repeat item (suc k) len (pos (get_or starts m.next 0)) here.1))
+            absurd (bad.bad (here.0, subst (λ z. BeginsSureRun (IsOwned s p.id item) (IsSure s w.lines p.id.mag item) z (pos (get_or starts m.next 0))) len here.1))
         | inr ge ↦ omega (arith, f.0)
       ]
 

@@ -58,8 +58,8 @@ text_front text =
 abbrev pub is_counted : Sign → ℕ → Bool
 is_counted sign feeds = sign.seen && (feeds == 0)
 
-abbrev pub is_here : Sign → ℕ → ℕ → Bool
-is_here sign feeds index = is_counted sign feeds && (index == 0)
+abbrev pub is_sought : Sign → ℕ → ℕ → Bool
+is_sought sign feeds index = is_counted sign feeds && (index == 0)
 
 abbrev pub feeds_after : Sign → ℕ → ℕ
 feeds_after sign feeds = if sign.feed then feeds - 1 else feeds
@@ -71,7 +71,7 @@ index_after sign feeds index = if is_counted sign feeds then index - 1 else inde
 unfoldable pub sign_left : ℕ → Bool → ℕ → ℕ → List ℕ → Option ℕ
 sign_left zero basic feeds index text = None
 sign_left (suc most) basic feeds index text =
-    if is_here (sign_of basic text) feeds index then Some (length text)
+    if is_sought (sign_of basic text) feeds index then Some (length text)
     else sign_left most basic (feeds_after (sign_of basic text) feeds) (index_after (sign_of basic text) feeds index) (drop (sign_of basic text).size text)
 
 -- the bytes of a file from a place on, and those of the text whose quotation mark stands there

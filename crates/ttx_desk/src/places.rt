@@ -150,9 +150,9 @@ fn is_counted(sign: Sign, feeds: usize) -> bool
     sign.seen && feeds == 0
 }
 
-// Whether a sign is the character with an index.
-fn is_here(sign: Sign, feeds: usize, index: usize) -> bool
-    ensures { result ≡ rule.is_here sign feeds index }
+// Whether a sign is the character that is sought: no line feed and no character is left to pass.
+fn is_sought(sign: Sign, feeds: usize, index: usize) -> bool
+    ensures { result ≡ rule.is_sought sign feeds index }
 {
     is_counted(sign, feeds) && index == 0
 }
@@ -188,7 +188,7 @@ fn sign_left(text: &[u8], basic: bool, feeds: usize, index: usize) -> Option<usi
     let mut left = index;
     for _sign in 0..text.len() {
         let sign = sign_of(rest, basic);
-        if is_here(sign, feeds, left) {
+        if is_sought(sign, feeds, left) {
             return Some(rest.len());
         }
         left = index_after(sign, feeds, left);

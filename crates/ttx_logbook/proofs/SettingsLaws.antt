@@ -1,4 +1,5 @@
--- The first line is read as it is written.
+-- The settings in the first line of a log. NAME_read: what is written of a value is read as this value. NAME_is: a text that is read is the
+-- one that is written of its value, and the value is in its range.
 use Rattle.std.proofs.Common.{◌≡◌, ℕ, zero, suc, ◌^◌, ◌<◌, ◌≤◌, ◌==◌, nat_lt, nat_le, nat_abs, ℤ, pos, negsuc, Bool, true, false, not, ◌&&◌, List, ◌∷◌, ◌++◌, codes, Option, Some, None, refl, sym, ap, ◌∙◌, subst, arith, if◌then◌else◌}
 use Rattle.std.specs.Fmt.{decimal, signed_decimal}
 use Rattle.std.specs.List.{list_all}

@@ -1,4 +1,4 @@
--- Each part of a page, and `info`, has no mistake exactly where it is read.
+-- Each part of a page, and `info`, has no mistake exactly where it is read. NAME_where: the list of the mistakes of NAME is empty there alone.
 use Rattle.std.proofs.Common.{◌≡◌, ◌+◌, ℕ, List, [], ◌∷◌, Bool, true, false, if◌then◌else◌, Option, Some, None, Ok, Err, map, codes, refl}
 use Rattle.std.proofs.Common.{nat_lt}
 use Rattle.toml.specs.Data.{Data, Items, no_items, item, Members, no_members, member, get_member, as_array, as_table}

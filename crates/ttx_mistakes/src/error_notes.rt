@@ -290,7 +290,7 @@ fn push_detail(
     }
 }
 
-// The character that is refused.
+// The index of the character that is refused, or of the first one that is too many.
 fn sign(mistake: &Mistake<'_>, said: &str) -> Option<usize>
     ensures { result ≡ rule.sign (key_fault_of mistake.now.fault) mistake.now.page (part_view mistake.now.part) said.now }
 {
@@ -301,7 +301,7 @@ fn sign(mistake: &Mistake<'_>, said: &str) -> Option<usize>
     }
 }
 
-// The name of what is refused, and why.
+// The name of what is refused, and why. `said` is the text that is refused, as `part_text` has it.
 fn error_words(
     alloc: Global,
     table: &Table,

@@ -2,6 +2,7 @@ pub mod Packets
 pub mod Pages
 pub mod Memories
 pub mod Receivers
+pub mod Runs
 pub mod Streams
 pub mod Receptions
 pub mod Followers

@@ -14,6 +14,7 @@ use Rattle.std.specs.Prelude.{false, not, ◌&&◌, ◌==◌, List, [], ◌∷�
 use Rattle.std.specs.List.{AllByRecursion}
 use Rattle.ttx_header.specs.Ids.{Id, same_id}
 use Rattle.ttx_header.specs.Control.{c11}
+use Rattle.ttx_page.specs.Runs.{IsSentAt, IsSureSent, Successive, IsRunFrom, BeginsSureRun, RunEndsBelow}
 use Rattle.ttx_page.specs.Packets.{Packet, Header, Row, Links, packet_of}
 use Rattle.ttx_page.specs.Pages.{Item, TheHead, TheRow, TheLinks, Selection, matches}
 
@@ -75,9 +76,8 @@ IsOwned s page TheLinks h j =
     IsLatestHeader s page.mag h j × (heads_page page (packet_of (s h)) ≡ true) × (carries page.mag TheLinks (packet_of (s j)) ≡ true)
 
 -- slot j is a transmission of the item
-pub record IsTransmission (s : Stream) (page : Id) (item : Item) (j : ℤ) : Type 0 where
-  pub owner : ℤ
-  pub owned : IsOwned s page item owner j
+abbrev pub IsTransmission : Stream → Id → Item → ℤ → Type 0
+IsTransmission s page item = IsSentAt (IsOwned s page item)
 
 -- the slot is more than L slots after its header, and no header in between ends the page
 abbrev pub CannotBeMissed : Stream → ℕ → ℕ → ℤ → ℤ → Type 0
@@ -89,20 +89,12 @@ IsSure s lines mag TheHead h j = Unit {0}
 IsSure s lines mag (TheRow r) h j = CannotBeMissed s lines mag h j
 IsSure s lines mag TheLinks h j = CannotBeMissed s lines mag h j
 
-pub record IsSureTransmission (s : Stream) (page : Id) (lines : ℕ) (item : Item) (j : ℤ) : Type 0 where
-  pub owner : ℤ
-  pub owned : IsOwned s page item owner j
-  pub sure : IsSure s lines page.mag item owner j
+abbrev pub IsSureTransmission : Stream → Id → ℕ → Item → ℤ → Type 0
+IsSureTransmission s page lines item = IsSureSent (IsOwned s page item) (IsSure s lines page.mag item)
 
 -- these slots are transmissions of the item, with no other transmission between two of them
 abbrev pub AreSuccessive : Stream → Id → Item → List ℤ → Type 0
-AreSuccessive s page item [] = Unit {0}
-AreSuccessive s page item (i ∷ []) = IsTransmission s page item i
-AreSuccessive s page item (i ∷ j ∷ rest) =
-    IsTransmission s page item i
-    × (i <ℤ j)
-    × ((x : ℤ) → i <ℤ x → x <ℤ j → IsTransmission s page item x → ⊥)
-    × AreSuccessive s page item (j ∷ rest)
+AreSuccessive s page item = Successive (IsTransmission s page item)
 
 -- how many transmissions a run has: the repeat count; for links, one
 abbrev pub run_length : ℕ → Item → ℕ
@@ -111,21 +103,16 @@ run_length repeat (TheRow r) = repeat
 run_length repeat TheLinks = 1
 
 -- the run from slot `first`: that many successive transmissions
-pub record IsRun (s : Stream) (page : Id) (repeat : ℕ) (item : Item) (first : ℤ) (rest : List ℤ) : Type 0 where
-  pub count : length (first ∷ rest) ≡ run_length repeat item
-  pub successive : AreSuccessive s page item (first ∷ rest)
+abbrev pub IsRun : Stream → Id → (repeat : ℕ) → Item → (first : ℤ) (rest : List ℤ) → Type 0
+IsRun s page repeat item = IsRunFrom (IsOwned s page item) (run_length repeat item)
 
 -- the run from slot `first` ends below slot `end`
-pub record EndsBelow (s : Stream) (page : Id) (repeat : ℕ) (item : Item) (first end : ℤ) : Type 0 where
-  pub rest : List ℤ
-  pub run : IsRun s page repeat item first rest
-  pub ends : AllByRecursion (λ j. j <ℤ end) (first ∷ rest)
+abbrev pub EndsBelow : Stream → Id → (repeat : ℕ) → Item → (first end : ℤ) → Type 0
+EndsBelow s page repeat item = RunEndsBelow (IsOwned s page item) (run_length repeat item)
 
 -- each transmission of the run from slot `first` is sure
-pub record HasSureRun (s : Stream) (page : Id) (lines repeat : ℕ) (item : Item) (first : ℤ) : Type 0 where
-  pub rest : List ℤ
-  pub run : IsRun s page repeat item first rest
-  pub all_sure : AllByRecursion (IsSureTransmission s page lines item) (first ∷ rest)
+abbrev pub HasSureRun : Stream → Id → (lines repeat : ℕ) → Item → (first : ℤ) → Type 0
+HasSureRun s page lines repeat item = BeginsSureRun (IsOwned s page item) (IsSure s lines page.mag item) (run_length repeat item)
 
 -- a sure run of the item under a header at slot `begin` or later, which ends below slot `end`
 pub record IsSent (s : Stream) (page : Id) (lines repeat : ℕ) (item : Item) (begin end : ℤ) : Type 0 where

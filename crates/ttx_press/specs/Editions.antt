@@ -4,7 +4,8 @@
 --                           composed into
 --   IsPlain, IsPlanBy, IsPlanFor    the plan of a service; also a spread plan, of the service sent as often as its promises need; that of a house
 --   IsPrinted               the edition of a text
---   IsSpoilt                why a text has none
+--   IsUnplanned, IsTooSlowText      a text whose service has no plan; one for whose plan no certificate has the deadline of the house
+--   IsSpoilt                why a text has no edition, in the words that the log has of it
 use Rattle.std.specs.Prelude.{◌≡◌, ◌⊎◌, ℕ, Bool, true, false, List, Ok}
 use Rattle.ttx_author_files.specs.AuthorTexts.{is_author_text, IsTextBy}
 use Rattle.ttx_certificate.specs.Entries.{CertificateFields, certificate_at}
@@ -54,12 +55,14 @@ pub record IsPrinted (h : House) (text : List ℕ) (e : Edition) : Type 0 where
   pub found : IsFoundWith e.cycle (pages_of sent) sent.lines (asked_of h) w Yes
   pub certificate : e.certificate ≡ certificate_at w
 
+-- the service of the text has no plan, in these words
 pub record IsUnplanned (h : House) (text words : List ℕ) : Type 0 where
   pub service : ServiceFields
   pub promises : List PromiseFields
   pub script : IsScript text service promises
   pub no_plan : IsNoPlan h service promises words
 
+-- the service is planned, but the certificate that is found is not accepted for the deadline of the house: the words name the slow pages
 pub record IsTooSlowText (h : House) (text words : List ℕ) : Type 0 where
   pub service : ServiceFields
   pub promises : List PromiseFields

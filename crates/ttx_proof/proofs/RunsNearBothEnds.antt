@@ -24,44 +24,6 @@ use Rattle.ttx_proof.proofs.BridgedIsSeen.{covered_sent, covered_of, place_of}
 use Rattle.ttx_proof.proofs.NeighbouringRuns as N
 use Rattle.ttx_proof.proofs.NeighbouringRuns.{IsOrdered, IsServed, IsInside}
 
--- definitions for streams agree with those for repeating transmissions
-module _ (s : Stream) (page : Id) (lines repeat : ℕ) (item : Item) (k : ℕ) (len : run_length repeat item ≡ k) where
-  abbrev Owned : ℤ → ℤ → Type 0
-  Owned = IsOwned s page item
-
-  abbrev Sure : ℤ → ℤ → Type 0
-  Sure = IsSure s lines page.mag item
-
-  sent_to : (j : ℤ) → IsTransmission s page item j → IsSentAt Owned j
-  sent_to j a = record { owner = a.owner; owned = a.owned }
-
-  sent_from : (j : ℤ) → IsSentAt Owned j → IsTransmission s page item j
-  sent_from j a = record { owner = a.owner; owned = a.owned }
-
-  successive_to : (xs : List ℤ) → AreSuccessive s page item xs → Successive (IsSentAt Owned) xs
-  successive_to [] a = tt
-  successive_to (x ∷ []) a = sent_to x a
-  successive_to (x ∷ y ∷ xs) a = (sent_to x a.0, a.1, (λ z low high p. a.2 z low high (sent_from z p)), successive_to (y ∷ xs) a.3)
-
-  successive_from : (xs : List ℤ) → Successive (IsSentAt Owned) xs → AreSuccessive s page item xs
-  successive_from [] a = tt
-  successive_from (x ∷ []) a = sent_from x a
-  successive_from (x ∷ y ∷ xs) a = (sent_from x a.0, a.1, (λ z low high p. a.2 z low high (sent_to z p)), successive_from (y ∷ xs) a.3)
-
-  pub sures_to : (xs : List ℤ) → AllByRecursion (IsSureTransmission s page lines item) xs → AllByRecursion (IsSureSent Owned Sure) xs
-  sures_to [] a = tt
-  sures_to (x ∷ xs) a = (record { owner = a.0.owner; owned = a.0.owned; sure = a.0.sure }, sures_to xs a.1)
-
-  pub sures_from : (xs : List ℤ) → AllByRecursion (IsSureSent Owned Sure) xs → AllByRecursion (IsSureTransmission s page lines item) xs
-  sures_from [] a = tt
-  sures_from (x ∷ xs) a = (record { owner = a.0.owner; owned = a.0.owned; sure = a.0.sure }, sures_from xs a.1)
-
-  pub run_to : (i : ℤ) (rest : List ℤ) → S.IsRun s page repeat item i rest → R.IsRunFrom Owned k i rest
-  run_to i rest r = record { count = r.count ∙ len; successive = successive_to (i ∷ rest) r.successive }
-
-  pub run_from : (i : ℤ) (rest : List ℤ) → R.IsRunFrom Owned k i rest → S.IsRun s page repeat item i rest
-  run_from i rest r = record { count = r.count ∙ sym len; successive = successive_from (i ∷ rest) r.successive }
-
 -- successive members of a run in a stream with period n are at most a period apart
 run_short : (s : Stream) (page : Id) (item : Item) (n : ℕ) → 1 ≤ n →
     ((j : ℤ) → IsTransmission s page item j → IsTransmission s page item (j +ℤ pos n)) →
@@ -138,6 +100,13 @@ module _ (laws : StreamLaws) (near : OwnersAreNear) (again : CyclesRepeat) (c : 
   abbrev Inside : Type 0
   Inside = IsInside JOwned JSure (suc k) (is_named c p item) (low c k) (high c k)
 
+  -- a run of as many transmissions as the repeat count says is one of k + 1
+  run_of : (first : ℤ) (rest : List ℤ) → S.IsRun (stream c) page w.repeat item first rest → R.IsRunFrom JOwned (suc k) first rest
+  run_of first rest = subst (λ n. R.IsRunFrom JOwned n first rest) len
+
+  run_is : (first : ℤ) (rest : List ℤ) → R.IsRunFrom JOwned (suc k) first rest → S.IsRun (stream c) page w.repeat item first rest
+  run_is first rest = subst (λ n. R.IsRunFrom JOwned n first rest) (sym len)
+
   abbrev Served : ℤ → Type 0
   Served = IsServed JOwned JSure (suc k) (limit w) (is_named c p item)
 
@@ -159,10 +128,9 @@ module _ (laws : StreamLaws) (near : OwnersAreNear) (again : CyclesRepeat) (c : 
     (named_is c p item first).1 (named_below c p item first a.ends.0 a.named),
     record {
       rest = rest;
-      run = run_to (stream c) page w.lines w.repeat item (suc k) len first rest
+      run = run_of first rest
           (J.old_run laws c.old c.new page w.lines item w.repeat first rest a.ends a.run);
-      all_sure = sures_to (stream c) page w.lines w.repeat item (suc k) len (first ∷ rest)
-          (J.old_sures laws c.old c.new page w.lines item (first ∷ rest) a.ends a.sure);
+      all_sure = J.old_sures laws c.old c.new page w.lines item (first ∷ rest) a.ends a.sure;
     },
   )
 
@@ -170,7 +138,7 @@ module _ (laws : StreamLaws) (near : OwnersAreNear) (again : CyclesRepeat) (c : 
       R.RunEndsBelow JOwned (suc k) first end
   old_ends first rest a end b = record {
     rest = rest;
-    run = run_to (stream c) page w.lines w.repeat item (suc k) len first rest
+    run = run_of first rest
         (J.old_run laws c.old c.new page w.lines item w.repeat first rest a.ends a.run);
     ends = b;
   }
@@ -191,10 +159,9 @@ module _ (laws : StreamLaws) (near : OwnersAreNear) (again : CyclesRepeat) (c : 
         (named_is c p item first).1 (named_above c p item first (omega (arith, ints)) a.named),
         record {
           rest = rest;
-          run = run_to (stream c) page w.lines w.repeat item (suc k) len first rest
+          run = run_of first rest
               (J.new_run laws c.old c.new page w.lines item owner first a.behind a.owned w.repeat rest a.run);
-          all_sure = sures_to (stream c) page w.lines w.repeat item (suc k) len (first ∷ rest)
-              (J.new_sures laws c.old c.new page w.lines item owner first a.behind a.owned w.repeat rest a.run a.sure);
+          all_sure = J.new_sures laws c.old c.new page w.lines item owner first a.behind a.owned w.repeat rest a.run a.sure;
         },
       )
 
@@ -202,7 +169,7 @@ module _ (laws : StreamLaws) (near : OwnersAreNear) (again : CyclesRepeat) (c : 
       R.RunEndsBelow JOwned (suc k) first end
   new_ends owner first rest a end b = record {
     rest = rest;
-    run = run_to (stream c) page w.lines w.repeat item (suc k) len first rest
+    run = run_of first rest
         (J.new_run laws c.old c.new page w.lines item owner first a.behind a.owned w.repeat rest a.run);
     ends = b;
   }
@@ -376,15 +343,15 @@ module _ (laws : StreamLaws) (near : OwnersAreNear) (again : CyclesRepeat) (c : 
           (named_is c p item t.start).0 t.counts.0,
           record {
             rest = t.counts.1.rest;
-            run = run_from (stream c) page w.lines w.repeat item (suc k) len t.start t.counts.1.rest t.counts.1.run;
-            all_sure = sures_from (stream c) page w.lines w.repeat item (suc k) len (t.start ∷ t.counts.1.rest) t.counts.1.all_sure;
+            run = run_is t.start t.counts.1.rest t.counts.1.run;
+            all_sure = t.counts.1.all_sure;
           },
         ),
         t.owned,
         t.not_before,
         record {
           rest = t.ends.rest;
-          run = run_from (stream c) page w.lines w.repeat item (suc k) len t.start t.ends.rest t.ends.run;
+          run = run_is t.start t.ends.rest t.ends.run;
           ends = t.ends.ends;
         },
       )
@@ -400,13 +367,13 @@ module _ (laws : StreamLaws) (near : OwnersAreNear) (again : CyclesRepeat) (c : 
           (named_is c p item t.0).1 t.2.0,
           record {
             rest = sure.rest;
-            run = run_to (stream c) page w.lines w.repeat item (suc k) len t.0 sure.rest sure.run;
-            all_sure = sures_to (stream c) page w.lines w.repeat item (suc k) len (t.0 ∷ sure.rest) sure.all_sure;
+            run = run_of t.0 sure.rest sure.run;
+            all_sure = sure.all_sure;
           },
         );
         owned = t.3;
         not_before = t.4;
-        ends = record { rest = t.5.rest; run = run_to (stream c) page w.lines w.repeat item (suc k) len t.0 t.5.rest t.5.run; ends = t.5.ends };
+        ends = record { rest = t.5.rest; run = run_of t.0 t.5.rest t.5.run; ends = t.5.ends };
       }
 
   pub walk_decides : (ts : List Transmission) → AreJoined c p item k ts → AllFollow (limit w) (counted (is_named c p item) k ts) ↔ IsBridged c p item

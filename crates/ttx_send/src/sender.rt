@@ -24,22 +24,20 @@ fn next_place(place: usize, count: usize) -> usize
     if place + 1 == count { 0 } else { place + 1 }
 }
 
-// The bytes of `count` slots of the repeated cycle, from slot `first` on, all with the same time.
-fn piece_bytes(slots: &[[u8; 42]], first: usize, count: usize, stamp: &Stamp) -> [u8; 5376]
+// Writes `count` slots of the repeated cycle, from slot `first` on, all with the same time.
+fn fill(bytes: &mut [u8; 5376], slots: &[[u8; 42]], first: usize, count: usize, stamp: &Stamp)
     requires cycle { IsCycle slots.now }
     requires fits { count ≤ 128 }
     requires first { first < 2 ^ 63 }
-    ensures long { length result ≡ 5376 }
-    ensures bytes { take (42 * count) result ≡ file_of (sent_from (at_moment slots.now stamp.now.moment) (pos first) count) }
+    ensures long { length bytes.new ≡ 5376 }
+    ensures bytes { take (42 * count) bytes.new ≡ file_of (sent_from (at_moment slots.now stamp.now.moment) (pos first) count) }
 {
-    let mut bytes = room();
     let mut place = first % slots.len();
     for at in 0..count {
         let slot = stamped(&slots[place], stamp);
-        put_slot(&mut bytes, 42 * at, &slot);
+        put_slot(bytes, 42 * at, &slot);
         place = next_place(place, slots.len());
     }
-    bytes
 }
 
 /// Sends `fields` fields of the repeated cycle, each of 1 to 32 lines. It begins with field `phase`, which is sent at the start of the clock.
@@ -67,10 +65,11 @@ pub fn send<C: Clock, W: Write>(
     let mut sent = 0;
     let mut field = 0;
     let mut stamp = stamp_of(clock.after(0));
+    let mut bytes = room();
     while field < fields {
         let piece = next_piece(field, fields, lines);
         stamp = stamp_at(clock, field, stamp);
-        let bytes = piece_bytes(slots, first, piece.slots, &stamp);
+        fill(&mut bytes, slots, first, piece.slots, &stamp);
         if let Err(fault) = write_bytes(writer, &bytes[..42 * piece.slots]) {
             return Err(WriteFault {
                 written: sent + fault.written,

@@ -35,7 +35,7 @@ fn six_of(values: &[Value]) -> Result<[Option<Target>; 6], KeyFault>
     Ok(six)
 }
 
-/// The number of values in an array.
+/// The number of values in an array, as the definitions count them.
 pub fn count(values: &[Value]) -> usize
     ensures count { result ≡ rule.count (items_view values.now) }
     ensures length { result ≡ length values.now }

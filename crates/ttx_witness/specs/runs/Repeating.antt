@@ -3,10 +3,7 @@
 -- receiver misses it (Sure h j).
 --
 --   Lists                   a list of all slots with a property, from one slot to below another
---   Successive              rising slots, with no other slot with the property between two of them
---   IsSentAt, IsSureSent    a slot is a transmission; it is a sure one
 --   Repeats                 what the two relations must satisfy
---   IsRunFrom, BeginsSureRun, RunEndsBelow  the run of k transmissions from a slot
 --   IsRunOf, IsNamedRun     numbers that describe a run of the stream; a run from a named slot
 --   turned, IsNamed         slots of a period, and named starts round the cycle
 --   Covers                  the named starts cover the item from every tuning slot
@@ -15,6 +12,7 @@
 use Rattle.std.specs.Prelude.{◌≡◌, ◌↔◌, ℕ, ◌<◌, ◌≤◌, ℤ, pos, ◌+ℤ◌, ◌-ℤ◌, ◌<ℤ◌, ◌≤ℤ◌, true, List, [], ◌∷◌, length}
 use Rattle.std.specs.Prelude.{Contains, slice_index_or, Option, Some, None}
 use Rattle.std.specs.List.{AllByRecursion}
+pub use Rattle.ttx_page.specs.Runs.{IsSentAt, IsSureSent, Successive, IsRunFrom, BeginsSureRun, RunEndsBelow}
 pub use Rattle.ttx_page.specs.Streams.{turned}
 pub use Rattle.ttx_certificate.specs.NamedStarts.{next_start}
 use Rattle.ttx_witness.specs.runs.Transmissions.{Transmission, Run, slot_of}
@@ -29,11 +27,6 @@ Lists at P Is low high (t ∷ ts) =
     × ((x : ℤ) → low ≤ℤ x → x <ℤ (at t) → P x → ⊥)
     × Lists at P Is ((at t) +ℤ pos 1) high ts
 
-abbrev pub Successive : (ℤ → Type 0) → List ℤ → Type 0
-Successive P [] = Unit {0}
-Successive P (i ∷ []) = P i
-Successive P (i ∷ j ∷ rest) = P i × (i <ℤ j) × ((x : ℤ) → i <ℤ x → x <ℤ j → P x → ⊥) × Successive P (j ∷ rest)
-
 -- each slot has one owner, not after it, at most one period before it, and not falling; and all is the same one period later
 pub record Repeats (n : ℕ) (Owned Sure : ℤ → ℤ → Type 0) : Type 0 where
   pub some : 1 ≤ n
@@ -46,15 +39,6 @@ pub record Repeats (n : ℕ) (Owned Sure : ℤ → ℤ → Type 0) : Type 0 wher
   pub sure_later : (h j : ℤ) → Sure h j → Sure (h +ℤ pos n) (j +ℤ pos n)
   pub sure_earlier : (h j : ℤ) → Sure h j → Sure (h -ℤ pos n) (j -ℤ pos n)
 
-pub record IsSentAt (Owned : ℤ → ℤ → Type 0) (j : ℤ) : Type 0 where
-  pub owner : ℤ
-  pub owned : Owned owner j
-
-pub record IsSureSent (Owned Sure : ℤ → ℤ → Type 0) (j : ℤ) : Type 0 where
-  pub owner : ℤ
-  pub owned : Owned owner j
-  pub sure : Sure owner j
-
 -- the transmission t is one of the stream
 pub record Tells (Owned Sure : ℤ → ℤ → Type 0) (t : Transmission) : Type 0 where
   pub owned : Owned t.owner t.slot
@@ -63,23 +47,6 @@ pub record Tells (Owned Sure : ℤ → ℤ → Type 0) (t : Transmission) : Type
 -- ts are the stream's transmissions from slot `low` to below slot `high`
 abbrev pub AreSent : (ℤ → ℤ → Type 0) → (ℤ → ℤ → Type 0) → ℤ → ℤ → List Transmission → Type 0
 AreSent Owned Sure low high ts = Lists slot_of (IsSentAt Owned) (Tells Owned Sure) low high ts
-
--- the run from slot `first`: k successive transmissions
-pub record IsRunFrom (Owned : ℤ → ℤ → Type 0) (k : ℕ) (first : ℤ) (rest : List ℤ) : Type 0 where
-  pub count : length (first ∷ rest) ≡ k
-  pub successive : Successive (IsSentAt Owned) (first ∷ rest)
-
--- the run from slot `first` is sure
-pub record BeginsSureRun (Owned Sure : ℤ → ℤ → Type 0) (k : ℕ) (first : ℤ) : Type 0 where
-  pub rest : List ℤ
-  pub run : IsRunFrom Owned k first rest
-  pub all_sure : AllByRecursion (IsSureSent Owned Sure) (first ∷ rest)
-
--- the run from slot `first` ends below slot `end`
-pub record RunEndsBelow (Owned : ℤ → ℤ → Type 0) (k : ℕ) (first end : ℤ) : Type 0 where
-  pub rest : List ℤ
-  pub run : IsRunFrom Owned k first rest
-  pub ends : AllByRecursion (λ j. j <ℤ end) (first ∷ rest)
 
 -- r describes the stream's run from its start
 pub record IsRunOf (Owned Sure : ℤ → ℤ → Type 0) (k : ℕ) (r : Run) : Type 0 where

@@ -2,8 +2,10 @@
 --
 --   IsOwnDeadline           the least deadline of an item by itself
 --   IsBelow                 an item whose own least deadline is below a number
+--   AllBelow                all items before the m-th that a viewer sees are below a number
+--   IsFirstLongest          an item before the m-th that a viewer sees, and whose deadline is above those of all items before it
 --   IsLongest               the greatest deadline among the first m items that a viewer sees, and the first item that has it
---   IsByLimits              the answer for all of them
+--   IsWaitByLimits          the wait that follows for the page: the longest of its 26 items, or the first item that has no least limit
 use Rattle.std.specs.Prelude.{◌≡◌, ◌⊎◌, ℕ, ◌+◌, ◌<◌, true, List, Some, None}
 use Rattle.ttx_page.specs.Pages.{Page, needed}
 use Rattle.ttx_page.specs.declared.item.Item.{Item}
@@ -28,6 +30,7 @@ abbrev pub AllBelow : List (List ℕ) → Page → Class → ℕ → ℕ → ℕ
 AllBelow cycle p class repeat lines m bound = (other : Item) → needed p other ≡ true → item_number other < m →
     IsBelow cycle p class repeat lines other bound
 
+-- no item before it that a viewer sees waits as long
 pub record IsFirstLongest (cycle : List (List ℕ)) (p : Page) (class : Class) (repeat lines m deadline : ℕ) (item : Item) : Type 0 where
   pub seen : needed p item ≡ true
   pub before : item_number item < m
@@ -39,10 +42,10 @@ pub record IsLongest (cycle : List (List ℕ)) (p : Page) (class : Class) (repea
   pub all : AllBelow cycle p class repeat lines m (deadline + 1)
   pub first : (deadline ≡ 0) ⊎ IsFirstLongest cycle p class repeat lines m deadline item
 
-abbrev pub IsByLimits : List (List ℕ) → Page → Class → ℕ → ℕ → Wait → Type 0
-IsByLimits cycle p class repeat lines (Fields deadline item) = IsLongest cycle p class repeat lines 26 deadline item
-IsByLimits cycle p class repeat lines (Faulty reason) = ⊥
-IsByLimits cycle p class repeat lines (Unsure item losses) =
+abbrev pub IsWaitByLimits : List (List ℕ) → Page → Class → ℕ → ℕ → Wait → Type 0
+IsWaitByLimits cycle p class repeat lines (Fields deadline item) = IsLongest cycle p class repeat lines 26 deadline item
+IsWaitByLimits cycle p class repeat lines (Faulty reason) = ⊥
+IsWaitByLimits cycle p class repeat lines (Unsure item losses) =
     (needed p item ≡ true) × (limit_for cycle class lines repeat p item ≡ None)
     × ((bound : ℕ) × AllBelow cycle p class repeat lines (item_number item) bound)
     × AreLosses cycle p.id lines item losses

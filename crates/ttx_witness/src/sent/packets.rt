@@ -139,8 +139,9 @@ pub fn sends(page: PageId, item: Item, slot: &[u8; 42], mine: bool) -> bool
     }
 }
 
-// The number of the item that the slot sends of some page, 0 to 25. `None` if it sends none of any page.
-fn number_in(slot: &[u8; 42]) -> Option<u8>
+// The number of the item that the slot may send, whatever the page: 0 a header, 1 to 24 a row, 25 links. If it sends an item of any
+// page, it is this one.
+fn item_number_in(slot: &[u8; 42]) -> Option<u8>
     ensures range { IfSome result (λ number. number < 26) }
     ensures number { (page : Id) (item : ItemValue) (mine : Bool) → sends page item (packet_of slot.now) mine ≡ true →
         result ≡ Some (item_number item) }
@@ -158,7 +159,7 @@ fn number_in(slot: &[u8; 42]) -> Option<u8>
 pub fn item_sent(page: PageId, slot: &[u8; 42], mine: bool) -> Option<u8>
     ensures { (item : ItemValue) → IsItem item → is_number_of item result ≡ sends page item (packet_of slot.now) mine }
 {
-    let number = number_in(slot)?;
+    let number = item_number_in(slot)?;
     if sends(page, item_of(number), slot, mine) {
         Some(number)
     } else {

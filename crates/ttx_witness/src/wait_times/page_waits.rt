@@ -9,7 +9,7 @@ ghost use Rattle.ttx_witness.specs.sent.ItemTransmissions.{sent_in};
 ghost use Rattle.ttx_witness.specs.search.Finding.{IsLeastField};
 ghost use Rattle.ttx_witness.specs.search.Surveys.{AreOthersIn};
 ghost use Rattle.ttx_witness.specs.wait_times.PageWaits.{is_near, is_cut, AreLosses, AreWaits};
-ghost use Rattle.ttx_witness.specs.wait_times.SurveyedWaits.{IsByLimitsIn, IsWaitIn, AreWaitsIn};
+ghost use Rattle.ttx_witness.specs.wait_times.SurveyedWaits.{IsWaitByLimitsIn, IsWaitIn, AreWaitsIn};
 
 use crate::faults::other_subpages::OtherSubpages;
 use crate::runs::transmissions::Transmission;
@@ -79,7 +79,7 @@ pub(crate) fn fields_for(slots: u64, lines: u8) -> u32
 
 // The first item of the page that needs the most fields; or the first that has no sure run.
 fn longest_item(alloc: Global, surveyed: &SurveyedPage) -> Result<Wait, NoMemory>
-    ensures { IfOk result (λ wait. IsByLimitsIn surveyed.now wait) }
+    ensures { IfOk result (λ wait. IsWaitByLimitsIn surveyed.now wait) }
 {
     let survey = surveyed.survey;
     let mut fields = 0;

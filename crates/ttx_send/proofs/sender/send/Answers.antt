@@ -66,11 +66,11 @@ returns-in-Err-clause-bytes g c =
     let same : s ≡ broadcast_by (slots_of c.args.cycle.now) c.args.lines c.args.phase times =
     λ i. broadcast_by (c.slots-slots.ensures.slots i) (c.from-lines.ensures i) c.args.phase times in
     let some : 0 < lines = omega (arith, c.from-lines.ensures, c.requires.some) in
-    let part = take (42 * piece.slots) c.piece_bytes-bytes.result in
+    let part = take (42 * piece.slots) c.fill.new.bytes in
     let is : part ≡ file_of (piece_slots s field piece.fields) =
     piece_is slots lines c.args.phase field piece.fields c.loop-field.first piece.slots times c.stamp_at-stamp.result.moment
-    c.piece_bytes-bytes.result
-    c.piece_bytes-bytes.ensures.bytes c.stamp_at-stamp.ensures c.loop-field.invariant.first c.next_piece-piece.ensures.slots in
+    c.fill.new.bytes
+    c.fill.ensures.bytes c.stamp_at-stamp.ensures c.loop-field.invariant.first c.next_piece-piece.ensures.slots in
     let out = c.in-Err.ensures.bytes in
     let w : file_of (sent_slots s c.args.fields)
     ≡ file_of (sent_slots (broadcast_by (slots_of c.args.cycle.now) c.args.lines c.args.phase times) c.args.fields)
@@ -97,12 +97,12 @@ loop-field-preserved g c =
     let s = broadcast_by slots lines c.args.phase times in
     let some : 0 < lines = omega (arith, c.from-lines.ensures, c.requires.some) in
     let few : lines ≤ 32 = omega (arith, c.from-lines.ensures, c.requires.most) in
-    let part = take (42 * piece.slots) c.piece_bytes-bytes.result in
+    let part = take (42 * piece.slots) c.fill.new.bytes in
     let is : part ≡ file_of (piece_slots s field m) =
     piece_is slots lines c.args.phase field m c.loop-field.first piece.slots times c.stamp_at-stamp.result.moment
-    c.piece_bytes-bytes.result
-    c.piece_bytes-bytes.ensures.bytes c.stamp_at-stamp.ensures c.loop-field.invariant.first c.next_piece-piece.ensures.slots in
-    let long : length part ≡ 42 * piece.slots = piece_long c.piece_bytes-bytes.result piece.slots c.piece_bytes-bytes.ensures.long
+    c.fill.new.bytes
+    c.fill.ensures.bytes c.stamp_at-stamp.ensures c.loop-field.invariant.first c.next_piece-piece.ensures.slots in
+    let long : length part ≡ 42 * piece.slots = piece_long c.fill.new.bytes piece.slots c.fill.ensures.long
     c.next_piece-piece.ensures.fits in
     let more : file_of (sent_slots s field) ++ part ≡ file_of (sent_slots s (field + m)) =
     ap (λ l. file_of (sent_slots s field) ++ l) is ∙ sym (bytes_more s field m some c.next_piece-piece.ensures.second) in

@@ -66,23 +66,23 @@ module _ (Owned Sure : ℤ → ℤ → Type 0) (n k limit : ℕ) (law : Repeats 
       l.late (subst (λ x. RunEndsBelow Owned (suc k) x ((l.owner +ℤ pos limit) +ℤ pos 1)) next
       ((b.ends ((l.owner +ℤ pos limit) +ℤ pos 1)).0 (omega (arith, ints))))
 
-  -- from the i-th on
-  FirstFrom : ℕ → Option ℕ → Type 0
-  FirstFrom i None = (j : ℕ) → i ≤ j → Late j → ⊥
-  FirstFrom i (Some s) = (j : ℕ) × (i ≤ j) × (s ≡ slice_index_or starts j 0) × Late j × ((m : ℕ) → i ≤ m → m < j → Late m → ⊥)
+  -- the first late start among those from the i-th on, if one is late
+  FirstLateFrom : ℕ → Option ℕ → Type 0
+  FirstLateFrom i None = (j : ℕ) → i ≤ j → Late j → ⊥
+  FirstLateFrom i (Some s) = (j : ℕ) × (i ≤ j) × (s ≡ slice_index_or starts j 0) × Late j × ((m : ℕ) → i ≤ m → m < j → Late m → ⊥)
 
-  first_from : (i : ℕ) (r : Run) (qs : List Run) → Chain i r qs → FirstFrom i (first_late limit starts i r qs)
-  unfolding Chain FirstFrom first_late
-  first_from i r [] c = λ j le l. let w = l.within in omega arith
-  first_from i r (q ∷ qs) c = cond_both (int_lt (r.owner +ℤ pos limit) q.end) (Some (slice_index_or starts i 0))
-      (first_late limit starts (i + 1) q qs) (FirstFrom i)
+  first_late_from : (i : ℕ) (r : Run) (qs : List Run) → Chain i r qs → FirstLateFrom i (first_late limit starts i r qs)
+  unfolding Chain FirstLateFrom first_late
+  first_late_from i r [] c = λ j le l. let w = l.within in omega arith
+  first_late_from i r (q ∷ qs) c = cond_both (int_lt (r.owner +ℤ pos limit) q.end) (Some (slice_index_or starts i 0))
+      (first_late limit starts (i + 1) q qs) (FirstLateFrom i)
       (λ e. (i, omega arith, refl, is_late i r q c.0 c.1 c.2 c.3 c.4 e, (λ m le lt l. absurd (omega arith))))
-      (λ e. on (first_late limit starts (i + 1) q qs) (first_from (i + 1) q qs c.5) (not_late i r q c.1 c.2 c.3 c.4 e))
+      (λ e. on (first_late limit starts (i + 1) q qs) (first_late_from (i + 1) q qs c.5) (not_late i r q c.1 c.2 c.3 c.4 e))
     where
       here_or : (j : ℕ) → i ≤ j → (i ≡ j) ⊎ (i + 1 ≤ j)
       here_or j le = elim (cases_lt i j) as (λ _. (i ≡ j) ⊎ (i + 1 ≤ j)) [ inl lt ↦ inr (omega arith) | inr ge ↦ inl (omega arith) ]
 
-      on : (o : Option ℕ) → FirstFrom (i + 1) o → (Late i → ⊥) → FirstFrom i o
+      on : (o : Option ℕ) → FirstLateFrom (i + 1) o → (Late i → ⊥) → FirstLateFrom i o
       on None f not = λ j le l. elim (here_or j le) as (λ _. ⊥) [ inl e ↦ not (subst Late (sym e) l) | inr more ↦ f j more l ]
       on (Some s) f not = (
         f.0,
@@ -92,8 +92,8 @@ module _ (Owned Sure : ℤ → ℤ → Type 0) (n k limit : ℕ) (law : Repeats 
         (λ m le lt l. elim (here_or m le) as (λ _. ⊥) [ inl e ↦ not (subst Late (sym e) l) | inr more ↦ f.4 m more lt l ]),
       )
 
-  first_is : (o : Option ℕ) → FirstFrom 0 o → IsFirst Late starts o
-  unfolding FirstFrom
+  first_is : (o : Option ℕ) → FirstLateFrom 0 o → IsFirst Late starts o
+  unfolding FirstLateFrom
   first_is None f = λ i l. f i (omega arith) l
   first_is (Some s) f = (f.0, f.2, f.3, (λ j lt l. f.4 j (omega arith) lt l))
 
@@ -153,4 +153,4 @@ module _ (Owned Sure : ℤ → ℤ → Type 0) (n k limit : ℕ) (law : Repeats 
             ≡ late_after limit starts (after_runs limit starts m1 rs) (g.end +ℤ pos n) =
             ap (λ y. late_after limit starts y (y.first_end +ℤ pos n)) c'
             ∙ ap (λ y. late_after limit starts (after_runs limit starts m1 rs) (y +ℤ pos n)) fe in
-            subst (IsFirst Late starts) (sym (e1 ∙ r)) (first_is (first_late limit starts 0 g (rs ++ z ∷ [])) (first_from 0 g (rs ++ z ∷ []) ch))
+            subst (IsFirst Late starts) (sym (e1 ∙ r)) (first_is (first_late limit starts 0 g (rs ++ z ∷ [])) (first_late_from 0 g (rs ++ z ∷ []) ch))

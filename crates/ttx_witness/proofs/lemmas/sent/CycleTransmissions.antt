@@ -21,56 +21,19 @@ use Rattle.ttx_witness.proofs.lemmas.sent.StreamOwners as O
 pub period_of : (cycle : List (List ℕ)) (i : ℤ) → repeated cycle (i +ℤ pos (length cycle)) ≡ repeated cycle i
 period_of cycle i = ap (λ x. slice_index_or cycle x []) (turned_once (length cycle) i)
 
--- the definitions for streams agree with those for repeating transmissions
-module _ (s : Stream) (page : Id) (lines repeat : ℕ) (item : Item) where
-  abbrev Owned : ℤ → ℤ → Type 0
-  Owned = IsOwned s page item
+-- runs of as many transmissions as the repeat count says, and runs of k
+module _ (s : Stream) (page : Id) (lines repeat : ℕ) (item : Item) (k : ℕ) (len : run_length repeat item ≡ k) where
+  pub sure_run_to : (i : ℤ) → S.HasSureRun s page lines repeat item i → R.BeginsSureRun (IsOwned s page item) (IsSure s lines page.mag item) k i
+  sure_run_to i = subst (λ n. R.BeginsSureRun (IsOwned s page item) (IsSure s lines page.mag item) n i) len
 
-  abbrev Sure : ℤ → ℤ → Type 0
-  Sure = IsSure s lines page.mag item
+  pub sure_run_from : (i : ℤ) → R.BeginsSureRun (IsOwned s page item) (IsSure s lines page.mag item) k i → S.HasSureRun s page lines repeat item i
+  sure_run_from i = subst (λ n. R.BeginsSureRun (IsOwned s page item) (IsSure s lines page.mag item) n i) (sym len)
 
-  sent_to : (j : ℤ) → IsTransmission s page item j → IsSentAt Owned j
-  sent_to j a = record { owner = a.owner; owned = a.owned }
+  pub ends_to : (i e : ℤ) → S.EndsBelow s page repeat item i e → R.RunEndsBelow (IsOwned s page item) k i e
+  ends_to i e = subst (λ n. R.RunEndsBelow (IsOwned s page item) n i e) len
 
-  sent_from : (j : ℤ) → IsSentAt Owned j → IsTransmission s page item j
-  sent_from j a = record { owner = a.owner; owned = a.owned }
-
-  successive_to : (xs : List ℤ) → AreSuccessive s page item xs → Successive (IsSentAt Owned) xs
-  successive_to [] a = tt
-  successive_to (x ∷ []) a = sent_to x a
-  successive_to (x ∷ y ∷ xs) a = (sent_to x a.0, a.1, (λ z low high p. a.2 z low high (sent_from z p)), successive_to (y ∷ xs) a.3)
-
-  successive_from : (xs : List ℤ) → Successive (IsSentAt Owned) xs → AreSuccessive s page item xs
-  successive_from [] a = tt
-  successive_from (x ∷ []) a = sent_from x a
-  successive_from (x ∷ y ∷ xs) a = (sent_from x a.0, a.1, (λ z low high p. a.2 z low high (sent_to z p)), successive_from (y ∷ xs) a.3)
-
-  sures_to : (xs : List ℤ) → AllByRecursion (IsSureTransmission s page lines item) xs → AllByRecursion (IsSureSent Owned Sure) xs
-  sures_to [] a = tt
-  sures_to (x ∷ xs) a = (record { owner = a.0.owner; owned = a.0.owned; sure = a.0.sure }, sures_to xs a.1)
-
-  sures_from : (xs : List ℤ) → AllByRecursion (IsSureSent Owned Sure) xs → AllByRecursion (IsSureTransmission s page lines item) xs
-  sures_from [] a = tt
-  sures_from (x ∷ xs) a = (record { owner = a.0.owner; owned = a.0.owned; sure = a.0.sure }, sures_from xs a.1)
-
-  module _ (k : ℕ) (len : run_length repeat item ≡ k) where
-    run_to : (i : ℤ) (rest : List ℤ) → S.IsRun s page repeat item i rest → R.IsRunFrom Owned k i rest
-    run_to i rest r = record { count = r.count ∙ len; successive = successive_to (i ∷ rest) r.successive }
-
-    run_from : (i : ℤ) (rest : List ℤ) → R.IsRunFrom Owned k i rest → S.IsRun s page repeat item i rest
-    run_from i rest r = record { count = r.count ∙ sym len; successive = successive_from (i ∷ rest) r.successive }
-
-    pub sure_run_to : (i : ℤ) → S.HasSureRun s page lines repeat item i → R.BeginsSureRun Owned Sure k i
-    sure_run_to i h = record { rest = h.rest; run = run_to i h.rest h.run; all_sure = sures_to (i ∷ h.rest) h.all_sure }
-
-    pub sure_run_from : (i : ℤ) → R.BeginsSureRun Owned Sure k i → S.HasSureRun s page lines repeat item i
-    sure_run_from i h = record { rest = h.rest; run = run_from i h.rest h.run; all_sure = sures_from (i ∷ h.rest) h.all_sure }
-
-    pub ends_to : (i e : ℤ) → S.EndsBelow s page repeat item i e → R.RunEndsBelow Owned k i e
-    ends_to i e h = record { rest = h.rest; run = run_to i h.rest h.run; ends = h.ends }
-
-    pub ends_from : (i e : ℤ) → R.RunEndsBelow Owned k i e → S.EndsBelow s page repeat item i e
-    ends_from i e h = record { rest = h.rest; run = run_from i h.rest h.run; ends = h.ends }
+  pub ends_from : (i e : ℤ) → R.RunEndsBelow (IsOwned s page item) k i e → S.EndsBelow s page repeat item i e
+  ends_from i e = subst (λ n. R.RunEndsBelow (IsOwned s page item) n i e) (sym len)
 
 turned_same : (n : ℕ) (i : ℤ) → R.turned n i ≡ S.turned n i
 turned_same n (ℤ.pos a) = refl

@@ -26,7 +26,7 @@ use Rattle.ttx_witness.specs.laws.CycleLaws.{found_starts, SureStartsAreFound, L
 use Rattle.ttx_witness.specs.faults.Faults.{IsPageFault, SteadyHasNoFault}
 use Rattle.ttx_witness.specs.search.Finding.{is_due, starts_of, starts_for, spread_at, limit_of, least_limit, limit_for, IsEnough}
 use Rattle.ttx_witness.specs.wait_times.PageWaits.{IsFor, IsLeast, ShowsItem, CanShow, CanAccept, Needs, HasNoSureStart, IsWait, IsPageTold, AreWaits}
-use Rattle.ttx_witness.specs.wait_times.ItemLimits.{IsOwnDeadline, IsBelow, IsFirstLongest, IsLongest, IsByLimits}
+use Rattle.ttx_witness.specs.wait_times.ItemLimits.{IsOwnDeadline, IsBelow, IsFirstLongest, IsLongest, IsWaitByLimits}
 use Rattle.ttx_witness.specs.declared.faults.reason.Reason.{Reason}
 use Rattle.ttx_witness.specs.declared.wait_times.wait.Losses.{Losses}
 use Rattle.ttx_witness.specs.declared.wait_times.wait.Wait.{Wait}
@@ -320,7 +320,7 @@ module _ (turn : EachSlotTurns) (found : SureStartsAreFound) (law : LeastLimitIs
             CanAccept cycle pages p class repeat lines e → ⊥
         none_accepts item seen none e c = none e (accepted_shows cycle p class repeat lines pages e c item seen)
 
-        wait_unsure : (item : Item) (losses : Losses) → IsByLimits cycle p class repeat lines (Unsure item losses) →
+        wait_unsure : (item : Item) (losses : Losses) → IsWaitByLimits cycle p class repeat lines (Unsure item losses) →
             IsWait cycle pages p class repeat lines (Unsure item losses)
         wait_unsure item losses h = record {
           least = none_accepts item h.0 (λ e c. subst (λ o. IsEnough o (e * lines)) h.1 (can_fits item e c));
@@ -334,7 +334,7 @@ module _ (turn : EachSlotTurns) (found : SureStartsAreFound) (law : LeastLimitIs
           );
         }
 
-        pub wait_limits : (wait : Wait) → IsByLimits cycle p class repeat lines wait → IsWait cycle pages p class repeat lines wait
+        pub wait_limits : (wait : Wait) → IsWaitByLimits cycle p class repeat lines wait → IsWait cycle pages p class repeat lines wait
         wait_limits (Fields d item) h = wait_fields d item h
         wait_limits (Faulty reason) h = absurd h
         wait_limits (Unsure item losses) h = wait_unsure item losses h

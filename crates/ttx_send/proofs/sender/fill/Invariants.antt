@@ -2,7 +2,7 @@ use Rattle.std.proofs.Common.{◌≡◌, ◌+◌, ◌*◌, ◌%◌, pos, length,
 use Rattle.ttx_cycle.specs.Files.{file_of}
 use Rattle.ttx_page.specs.Laws.{sent_from}
 use Rattle.ttx_send.specs.Airing.{at_moment}
-use Rattle.ttx_send.proofs.sender.piece_bytes.Given as goal
+use Rattle.ttx_send.proofs.sender.fill.Given as goal
 
 abbrev pub invariant-loop-at : goal.invariant-loop-at
 invariant-loop-at l = record {

@@ -3,7 +3,7 @@ use Rattle.ttx_cycle.specs.Files.{file_of}
 use Rattle.ttx_page.specs.Laws.{sent_from}
 use Rattle.ttx_send.specs.Airing.{at_time, at_moment}
 use Rattle.ttx_send.proofs.SentSlots.{file_more, next_round}
-use Rattle.ttx_send.proofs.sender.piece_bytes.Goals as goal
+use Rattle.ttx_send.proofs.sender.fill.Goals as goal
 
 pub loop-at-preserved : goal.loop-at-preserved
 loop-at-preserved c =
