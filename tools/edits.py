@@ -22,6 +22,7 @@ import collections
 import concurrent.futures
 import functools
 import hashlib
+import os
 import pathlib
 import re
 import shutil
@@ -213,6 +214,16 @@ class Room:
         for it in sources(names):
             (self.folder / it).parent.mkdir(parents=True, exist_ok=True)
             shutil.copy2(it, self.folder / it)
+        for it in names:
+            if it != name:
+                self.lend(it)
+
+    def lend(self, name):
+        """Gives the room a library that a check of the repository built, if there is one. rt looks whether it is of these sources."""
+        built = pathlib.Path("crates", name, "out", "rlib")
+        lent = self.folder / built
+        if built.is_dir() and not lent.exists():
+            shutil.copytree(built, lent, copy_function=os.link)
 
     def check(self):
         """The status of a check of the crate, and its output."""
