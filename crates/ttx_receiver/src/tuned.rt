@@ -73,6 +73,7 @@ impl Tuned {
     }
 
     /// Takes a slot by the receiver's choice. The age has already grown. Most slots are passed over by their address.
+    #[inline(always)]
     pub(crate) fn take(&mut self, class: Class, choice: bool, slot: &[u8; 42])
         ensures { self.new ≡ tuned_at self.old.selection self.old.lines
             (after class self.old.lines self.old.selection choice self.old.memory (packet_of slot.now)) }

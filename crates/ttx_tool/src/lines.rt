@@ -95,22 +95,15 @@ fn magazine(mag: u8) -> &'static str
     }
 }
 
-// Adds the slot's number, the magazine and the packet number.
+// Adds the slot's number, the magazine, the packet number, and the kind after them.
 #[tactic(auto, using(std::proofs::Common::append_assoc))]
-fn push_address(text: &mut String, slot: usize, at: Address) -> Result<(), AllocError>
-    ensures { OnOk result (string_bytes text.new ≡ string_bytes text.old ++ decimal slot ++ 32 ∷ decimal at.mag ++ 47 ∷ decimal at.number) }
+fn push_packet(text: &mut String, slot: usize, at: Address, kind: &str) -> Result<(), AllocError>
+    ensures { OnOk result (string_bytes text.new ≡ string_bytes text.old ++ decimal slot ++ 32 ∷ decimal at.mag ++ 47 ∷ decimal at.number
+        ++ kind.now) }
 {
     push_decimal(text, slot)?;
     text.push_str(magazine(at.mag))?;
-    push_decimal(text, usize::from(at.number))
-}
-
-// Adds magazine, packet number and kind.
-fn push_packet(text: &mut String, slot: usize, at: Address, kind: &str) -> Result<(), AllocError>
-    ensures { OnOk result (string_bytes text.new ≡ string_bytes text.old ++ decimal slot ++ 32 ∷ packet_text at.mag at.number kind.now) }
-{
-    push_address(text, slot, at)?;
-    text.push(' ')?;
+    push_decimal(text, usize::from(at.number))?;
     text.push_str(kind)
 }
 
@@ -137,7 +130,7 @@ fn push_header_line(
         ++ packet_line slot (packet_text at.mag at.number (codes "header")) (header_text (id_of bytes.now) (control_of bytes.now)) bytes.now) }
 {
     let header = read_header(bytes).unwrap();
-    push_packet(text, slot, at, "header")?;
+    push_packet(text, slot, at, " header")?;
     push_header(text, &header)?;
     end_packet(text, bytes)
 }
@@ -153,7 +146,7 @@ fn push_links_line(
     ensures { OnOk result (string_bytes text.new ≡ string_bytes text.old
         ++ packet_line slot (packet_text at.mag at.number (codes "links")) (link_fields_text (links_of at.mag bytes.now)) bytes.now) }
 {
-    push_packet(text, slot, at, "links")?;
+    push_packet(text, slot, at, " links")?;
     push_link_fields(text, read_links(at.mag, bytes))?;
     end_packet(text, bytes)
 }
@@ -169,12 +162,12 @@ fn push_info_line(
     ensures { OnOk result (string_bytes text.new ≡ string_bytes text.old
         ++ packet_line slot (packet_text at.mag at.number (codes "info")) (info_text (info_of bytes.now)) bytes.now) }
 {
-    push_packet(text, slot, at, "info")?;
+    push_packet(text, slot, at, " info")?;
     push_info(text, &read_info(bytes))?;
     end_packet(text, bytes)
 }
 
-// Adds the line of a packet whose fields aren't shown.
+// Adds the line of a packet whose fields aren't shown, with its kind after a space.
 fn push_plain_line(
     text: &mut String,
     slot: usize,
@@ -182,8 +175,8 @@ fn push_plain_line(
     kind: &str,
     bytes: &[u8; 42],
 ) -> Result<(), AllocError>
-    ensures { OnOk result (string_bytes text.new ≡ string_bytes text.old ++ decimal slot ++ 32 ∷ packet_text at.mag at.number kind.now
-        ++ corrected_mark bytes.now ++ 10 ∷ []) }
+    ensures { OnOk result (string_bytes text.new ≡ string_bytes text.old ++ decimal slot ++ 32 ∷ decimal at.mag ++ 47 ∷ decimal at.number
+        ++ kind.now ++ corrected_mark bytes.now ++ 10 ∷ []) }
 {
     push_packet(text, slot, at, kind)?;
     end_packet(text, bytes)
@@ -198,10 +191,10 @@ fn push_line(text: &mut String, slot: usize, bytes: &[u8; 42]) -> Result<(), All
         Slot::Empty => writeln!(text, "{slot} empty"),
         Slot::Unreadable => writeln!(text, "{slot} unreadable"),
         Slot::Header(at, _) => push_header_line(text, slot, at, bytes),
-        Slot::Row(at, _) => push_plain_line(text, slot, at, "row", bytes),
+        Slot::Row(at, _) => push_plain_line(text, slot, at, " row", bytes),
         Slot::Links(at, _) => push_links_line(text, slot, at, bytes),
         Slot::Info(at, _) => push_info_line(text, slot, at, bytes),
-        Slot::Other(at) => push_plain_line(text, slot, at, "other", bytes),
+        Slot::Other(at) => push_plain_line(text, slot, at, " other", bytes),
     }
 }
 

@@ -1,4 +1,5 @@
-use Rattle.std.proofs.Common.{◌≡◌, ◌∙◌, ap, ◌↔◌, true, subst}
+use Rattle.std.proofs.Common.{◌≡◌, ◌∙◌, ap, ◌↔◌, true, subst, sym, refl, absurd}
+use Rattle.std.proofs.lemmas.Bool.{both_ways}
 use Rattle.ttx_page.specs.Streams.{repeated}
 use Rattle.ttx_page.specs.Views.{page_of, memory_of}
 use Rattle.ttx_cycle.specs.Cycles.{slots_of}
@@ -24,4 +25,14 @@ returns-then-keeps c =
           (subst (λ m. (c.is_wrong.result ≡ true) ↔ (HasView p m → ⊥)) c.memory.ensures c.is_wrong.ensures);
       keeps = λ _. subst (λ id. KeepsRule s id (counter_run_of k).start (counter_run_of k).slots
           (counter_run_of k).repeat c.args.keys.now) c.id-2.ensures (c.in_ok-keeps.ensures.kept.0 c.if-keeps.true);
+    }
+
+pub returns-else-keeps : goal.returns-else-keeps
+returns-else-keeps c =
+    let s = repeated (slots_of c.args.cycle.now) in
+    let k = counter_run_of c.args.counter.now in
+    record {
+      judged = λ rule. absurd (both_ways _ c.if-keeps.false (c.in_ok-keeps.ensures.kept.1
+          (subst (λ id. KeepsRule s id k.start k.slots k.repeat c.args.keys.now) (sym c.id-2.ensures) rule)));
+      keeps = λ wrong. absurd (both_ways _ refl wrong);
     }
