@@ -16,13 +16,9 @@ by_table : (b : Bool) (p : Option Members) (author : Members) (c : Composed) →
 by_table true p author c e h = subst (λ q. Composes q (Ok c)) e h
 by_table false p author c e h = absurd h
 
-parsed : (b : Bool) (p : Option Members) (table : Members) → (if b then p else None) ≡ Some table → p ≡ Some table
-parsed true p table e = e
-parsed false p table e = cc
-
 -- what is read of a text is the service of its table
 of_table : (b : Bool) (p : Option Members) (table : Members) (s : ServiceFields) → p ≡ Some table
-    → (if b then service_in p else Err (not_toml, 0)) ≡ Ok s → service_of table ≡ Ok s
+    → service_in (if b then p else None) ≡ Ok s → service_of table ≡ Ok s
 of_table true p table s e h = ap service_in (sym e) ∙ h
 of_table false p table s e h = cc
 
@@ -41,6 +37,5 @@ composed_again_lem bytes decomposed composed said again =
     let built : ComposesTable author (Ok composed) = by_table (is_utf8 text) (parse_document text) author composed said.0.2.reads again in
     let there : service_of (service_table author) ≡ Ok composed.service =
     of_table (is_utf8 (string_bytes composed.text)) (parse_document (string_bytes composed.text)) (service_table author) composed.service built.table built.service in
-    let here : service_of table ≡ Ok decomposed.service =
-    of_table (is_utf8 bytes) (parse_document bytes) table decomposed.service (parsed (is_utf8 bytes) (parse_document bytes) table said.0.1) said.1 in
+    let here : service_of table ≡ Ok decomposed.service = ap service_in (sym said.0.1) ∙ said.1 in
     same_service (service_of table) composed.service decomposed.service (ap service_of (sym said.0.2.same) ∙ there) here

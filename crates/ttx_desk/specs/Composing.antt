@@ -5,9 +5,9 @@
 --   IsComposed, Composes    what is returned for an author's text
 use Rattle.std.specs.Prelude.{◌≡◌, ◌<◌, ℕ, List, [], ◌++◌, codes, length, string_bytes, ⊤, Bool, not, ◌&&◌, ◌==◌, nat_le, Option, Some, None, Result, Ok, Err, if◌then◌else◌}
 use Rattle.std.specs.List.{list_all}
-use Rattle.std.specs.Str.{is_utf8}
 use Rattle.toml.specs.Data.{Members}
 use Rattle.toml.specs.Parse.{parse_document}
+use Rattle.ttx_source.specs.Documents.{document_of}
 use Rattle.ttx_source.specs.declared.faults.SourceError.{SourceError}
 use Rattle.ttx_source.specs.Faults.{fault_of}
 use Rattle.ttx_source.specs.KeyFaults.{out_of_memory}
@@ -19,7 +19,7 @@ use Rattle.ttx_desk.specs.declared.composition.ComposeFault.{ComposeFault}
 use Rattle.ttx_desk.specs.declared.composition.ComposeFault.TheVariants.{NotToml, Mistakes, Service, Unsaid, NoMemory}
 
 abbrev pub author_in : List ℕ → Option Members
-author_in bytes = if is_utf8 bytes then parse_document bytes else None
+author_in bytes = document_of bytes
 
 -- the bytes begin with these
 abbrev pub BeginsWith : List ℕ → List ℕ → Type 0

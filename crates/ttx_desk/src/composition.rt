@@ -17,7 +17,7 @@ use crate::service_text::push_service;
 use crate::translation::service_of;
 use std::alloc::{AllocError, Global};
 use toml::Table;
-use ttx_source::{Service, SourceError, SourceFault, read_service};
+use ttx_source::{Service, SourceError, SourceFault, read_document, read_service};
 
 /// A service text, and its service.
 #[derive(Drop)]
@@ -229,12 +229,9 @@ pub fn compose(alloc: Global, author: &[u8], source: &str) -> Result<Composed, C
     ensures answer { rule.Composes (rule.author_in author.now) result }
     ensures comment { IfOk result (λ c. rule.BeginsWith (rule.first_comment source.now) (string_bytes c.text)) }
 {
-    let Ok(text) = std::str::from_utf8(author) else {
-        return Err(ComposeFault::NotToml);
-    };
-    match toml::table_from_str(alloc, text) {
-        Ok(table) => compose_table(alloc, text, &table, source),
-        Err(error) if error.is_memory() => Err(ComposeFault::NoMemory),
-        Err(_) => Err(ComposeFault::NotToml),
+    match read_document(alloc, author) {
+        Ok(Some(document)) => compose_table(alloc, document.text, &document.table, source),
+        Ok(None) => Err(ComposeFault::NotToml),
+        Err(_) => Err(ComposeFault::NoMemory),
     }
 }

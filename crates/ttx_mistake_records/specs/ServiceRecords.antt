@@ -3,11 +3,10 @@
 --   IsTomlRecord            those of a text that is not a TOML document; of a key that is given twice with both places
 --   IsTableRecord           those of a text with this table, and its status
 --   IsServiceRecord         those of a text, and its status
-use Rattle.std.specs.Prelude.{◌≡◌, ℕ, ◌≤◌, Bool, true, if◌then◌else◌, List, [], ◌∷◌, ◌++◌, codes, length, map, Option, Some, None}
-use Rattle.std.specs.Str.{is_utf8}
+use Rattle.std.specs.Prelude.{◌≡◌, ℕ, ◌≤◌, Bool, true, List, [], ◌∷◌, ◌++◌, codes, length, map, Option, Some, None}
 use Rattle.toml.specs.Data.{Members}
-use Rattle.toml.specs.Parse.{parse_document}
 use Rattle.ttx_json.specs.Objects.{Member, count}
+use Rattle.ttx_source.specs.Documents.{document_of}
 use Rattle.ttx_mistakes.specs.LongLines.{placed}
 use Rattle.ttx_mistakes.specs.LongReports.{given_first, notes_of, pages_in}
 use Rattle.ttx_mistake_records.specs.Records.{line, place_members, note_members, IsRecordOf}
@@ -35,4 +34,4 @@ IsRecordBy file bytes strict None text code = IsTomlRecord file bytes text × (c
 IsRecordBy file bytes strict (Some table) text code = IsTableRecord file bytes strict table text code
 
 abbrev pub IsServiceRecord : List ℕ → List ℕ → Bool → List ℕ → ℕ → Type 0
-IsServiceRecord file bytes strict text code = IsRecordBy file bytes strict (if is_utf8 bytes then parse_document bytes else None) text code
+IsServiceRecord file bytes strict text code = IsRecordBy file bytes strict (document_of bytes) text code

@@ -9,6 +9,7 @@ use std::alloc::{AllocError, Global};
 use toml::Table;
 use ttx_author_files::told_of_author;
 use ttx_mistakes::pages_in;
+use ttx_source::read_document;
 
 // The objects of an author's text with this table, and the status.
 fn record_for(
@@ -37,11 +38,8 @@ pub fn author_record(
 ) -> Result<Record, AllocError>
     ensures { IfOk result (λ r. IsAuthorRecord file.now bytes.now strict (string_bytes r.text) r.status) }
 {
-    let Ok(text) = std::str::from_utf8(bytes) else {
-        return Err(AllocError);
-    };
-    let Ok(author) = toml::table_from_str(alloc, text) else {
-        return Err(AllocError);
-    };
-    record_for(alloc, file, text, strict, &author)
+    match read_document(alloc, bytes)? {
+        Some(author) => record_for(alloc, file, author.text, strict, &author.table),
+        None => Err(AllocError),
+    }
 }

@@ -11,8 +11,9 @@ ghost use Rattle.ttx_mistake_records.specs.ServiceRecords as service;
 use crate::records::{Paper, Record, Said, push_again, push_counts, push_said, record_of};
 use std::alloc::{AllocError, Global};
 use toml::Table;
-use ttx_mistakes::first_keys::first_place;
+use ttx_mistakes::long_reports::{given_first, toml_words};
 use ttx_mistakes::{Placed, notes_of, pages_in, push_notes};
+use ttx_source::read_document;
 
 // The errors and warnings about a text with this table, at their places.
 fn placed_notes(alloc: Global, text: &str, table: &Table) -> Result<Vec<Placed>, AllocError>
@@ -40,41 +41,6 @@ fn table_record(
         bytes: text.as_bytes(),
     };
     record_of(alloc, paper, strict, pages_in(table), &found)
-}
-
-// The words about a text that is not a TOML document.
-fn toml_words(alloc: Global, message: &str) -> Result<String, AllocError>
-    ensures { IfOk result (λ words. string_bytes words ≡ codes "this isn't TOML: " ++ message.now) }
-{
-    let mut words = String::from_str(alloc, "this isn't TOML: ")?;
-    words.push_str(message)?;
-    Ok(words)
-}
-
-// The place where the key at a place of a text is first given.
-fn first_in(alloc: Global, bytes: &[u8], place: usize) -> Result<Option<usize>, AllocError>
-    ensures { IfOk result (λ first. first ≡ report.first_in bytes.now place) }
-{
-    match std::str::from_utf8(bytes) {
-        Ok(text) => first_place(alloc, text, place),
-        Err(_) => Ok(None),
-    }
-}
-
-// The same, if the words of the TOML reader say that the key is given twice.
-fn given_first(
-    alloc: Global,
-    bytes: &[u8],
-    place: usize,
-    words: &str,
-) -> Result<Option<usize>, AllocError>
-    ensures { IfOk result (λ first. first ≡ report.given_first bytes.now place words.now) }
-{
-    if words == "duplicate key" {
-        first_in(alloc, bytes, place)
-    } else {
-        Ok(None)
-    }
 }
 
 // Adds the object of an error, with the place where a key is first given, if there is one.
@@ -156,12 +122,8 @@ pub fn service_record(
 ) -> Result<Record, AllocError>
     ensures { IfOk result (λ r. service.IsServiceRecord file.now bytes.now strict (string_bytes r.text) r.status) }
 {
-    let Ok(text) = std::str::from_utf8(bytes) else {
-        return toml_record(alloc, file, bytes);
-    };
-    match toml::table_from_str(alloc, text) {
-        Ok(table) => table_record(alloc, file, text, strict, &table),
-        Err(error) if error.is_memory() => Err(AllocError),
-        Err(_) => toml_record(alloc, file, bytes),
+    match read_document(alloc, bytes)? {
+        Some(document) => table_record(alloc, file, document.text, strict, &document.table),
+        None => toml_record(alloc, file, bytes),
     }
 }

@@ -8,6 +8,7 @@ use Rattle.toml.specs.Data.{Data, Items, no_items, item, Members, no_members, me
 use Rattle.toml.specs.Parse.{parse_document}
 use Rattle.ttx_header.specs.Ids.{Id}
 use Rattle.ttx_page.specs.Pages.{Page}
+use Rattle.ttx_source.specs.Documents.{document_of}
 use Rattle.ttx_source.specs.Promises.{PromiseFields, promises_of, read_promises, read_stays}
 use Rattle.ttx_source.specs.Services.{ServiceFields, pages_of, read_bytes, service_of}
 use Rattle.ttx_source.specs.Values.{Fault}
@@ -206,7 +207,7 @@ alike F R plain code same (inr b) (inr n) = record { long = Î» e. n.1; short = Î
 
 pub refused_alike : RefusedAlike
 refused_alike file bytes short long strict plain code told told_long =
-    alike (FaultlessIn (is_utf8 bytes) (parse_document bytes)) (ReadIn (is_utf8 bytes) (parse_document bytes)) plain code
+    alike (FaultlessIn (is_utf8 bytes) (parse_document bytes)) (ReadIn (document_of bytes)) plain code
     (text_same (is_utf8 bytes) (parse_document bytes))
     (of_service bytes short plain (read_bytes bytes) told)
     (long_status file bytes long strict code (is_utf8 bytes) (parse_document bytes) told_long)

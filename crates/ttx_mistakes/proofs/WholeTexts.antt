@@ -4,7 +4,7 @@ use Rattle.std.proofs.Common.{nat_lt}
 use Rattle.std.specs.Str.{is_utf8}
 use Rattle.toml.specs.Data.{Items, no_items, Members, get_member, as_array}
 use Rattle.toml.specs.Parse.{parse_document}
-use Rattle.ttx_source.specs.Values.{Fault, not_toml, out_of_range, wrong_kind, ◌>>=◌, with_default}
+use Rattle.ttx_source.specs.Values.{Fault, out_of_range, wrong_kind, ◌>>=◌, with_default}
 use Rattle.ttx_source.specs.Keys.{lines, serial, info, count}
 use Rattle.ttx_source.specs.Promises.{promises_in, promises_of, promises_or, read_promises, read_stays}
 use Rattle.ttx_source.specs.Services.{ServiceFields, Authored, authored_ids, in_page, are_tables, tables_in, page_tables, with_pages, settings_of, service_of}
@@ -97,15 +97,11 @@ pub record FaultlessIn (text : Bool) (parsed : Option Members) : Type 0 where
   pub parsed_is : parsed ≡ Some table
   pub none : mistakes table ≡ []
 
-abbrev pub read_in : {A : Type 0} → Bool → Result A (Fault × ℕ) → Result A (Fault × ℕ)
-read_in text r = if text then r else Err (not_toml, 0)
+abbrev pub ReadIn : Option Members → Type 0
+ReadIn document =
+    Reads (service_in document) × (Reads (promises_or (codes "within") document) × Reads (promises_or (codes "stays") document))
 
-abbrev pub ReadIn : Bool → Option Members → Type 0
-ReadIn text parsed =
-    Reads (read_in text (service_in parsed))
-    × (Reads (read_in text (promises_or (codes "within") parsed)) × Reads (read_in text (promises_or (codes "stays") parsed)))
-
-pub text_same : (text : Bool) (parsed : Option Members) → Same (FaultlessIn text parsed) (ReadIn text parsed)
+pub text_same : (text : Bool) (parsed : Option Members) → Same (FaultlessIn text parsed) (ReadIn (if text then parsed else None))
 text_same false parsed = record { to = λ h. cc h.text_is; from = λ h. absurd h.0 }
 text_same true None = record { to = λ h. cc h.parsed_is; from = λ h. absurd h.0 }
 text_same true (Some table) = record {

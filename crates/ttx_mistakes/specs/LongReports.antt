@@ -11,7 +11,7 @@ use Rattle.std.specs.Fmt.{decimal}
 use Rattle.std.specs.List.{list_any}
 use Rattle.std.specs.Str.{bytes_eq, is_utf8}
 use Rattle.toml.specs.Data.{Members, get_member}
-use Rattle.toml.specs.Parse.{parse_document}
+use Rattle.ttx_source.specs.Documents.{document_of}
 use Rattle.ttx_source.specs.Keys.{count}
 use Rattle.ttx_source.specs.Promises.{PromiseFields, promises_of}
 use Rattle.ttx_source.specs.Services.{ServiceFields, service_of}
@@ -93,4 +93,4 @@ IsReportBy file bytes strict None text code = IsTomlReport file bytes text × (c
 IsReportBy file bytes strict (Some table) text code = IsTableReport file bytes strict table text code
 
 abbrev pub IsLongReport : List ℕ → List ℕ → Bool → List ℕ → ℕ → Type 0
-IsLongReport file bytes strict text code = IsReportBy file bytes strict (if is_utf8 bytes then parse_document bytes else None) text code
+IsLongReport file bytes strict text code = IsReportBy file bytes strict (document_of bytes) text code

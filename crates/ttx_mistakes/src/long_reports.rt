@@ -25,7 +25,9 @@ use toml::Table;
 use ttx_check::parts::values_at;
 use ttx_digits::push_decimal;
 use ttx_source::links::count;
-use ttx_source::{Service, SourceError, SourceFault, service_of_table, stays_of_table};
+use ttx_source::{
+    Service, SourceError, SourceFault, read_document, service_of_table, stays_of_table,
+};
 
 /// The long report on a text, and the status.
 #[derive(Drop)]
@@ -283,8 +285,8 @@ fn table_report(
     report_on(alloc, paper, strict, pages_in(table), &found)
 }
 
-// The words about a text that is not a TOML document.
-fn toml_words(alloc: Global, message: &str) -> Result<String, AllocError>
+/// The words about a text that is not a TOML document.
+pub fn toml_words(alloc: Global, message: &str) -> Result<String, AllocError>
     ensures { IfOk result (λ words. string_bytes words ≡ codes "this isn't TOML: " ++ message.now) }
 {
     let mut words = String::from_str(alloc, "this isn't TOML: ")?;
@@ -302,8 +304,8 @@ fn first_in(alloc: Global, bytes: &[u8], place: usize) -> Result<Option<usize>, 
     }
 }
 
-// The same, if the words of the TOML reader say that the key is given twice.
-fn given_first(
+/// The place where the key at a place of a text is first given, if the words of the TOML reader say that it is given twice.
+pub fn given_first(
     alloc: Global,
     bytes: &[u8],
     place: usize,
@@ -376,12 +378,8 @@ pub fn long_report(
 ) -> Result<LongReport, AllocError>
     ensures { IfOk result (λ report. rule.IsLongReport file.now bytes.now strict report.text.items report.status) }
 {
-    let Ok(text) = std::str::from_utf8(bytes) else {
-        return toml_report(alloc, file, bytes);
-    };
-    match toml::table_from_str(alloc, text) {
-        Ok(table) => table_report(alloc, file, text, strict, &table),
-        Err(error) if error.is_memory() => Err(AllocError),
-        Err(_) => toml_report(alloc, file, bytes),
+    match read_document(alloc, bytes)? {
+        Some(document) => table_report(alloc, file, document.text, strict, &document.table),
+        None => toml_report(alloc, file, bytes),
     }
 }

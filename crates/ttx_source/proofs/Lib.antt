@@ -7,5 +7,5 @@ mod LinkArray
 mod PageList
 mod PageArray
 mod PromiseArray
-mod SourceErrors
+pub mod DocumentTexts
 mod OftenChanges

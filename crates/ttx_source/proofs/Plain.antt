@@ -1,11 +1,11 @@
--- Texts: in a text of codes below 128 each character is one byte, and some bytes are not a text.
+-- Texts: in a text of codes below 128 each character is one byte.
 use Rattle.std.proofs.Common.{◌≡◌, ◌<◌, ◌≤◌, ◌+◌, ◌-◌, ◌*◌, ◌&&◌, true, length, List, ℕ, zero, suc, nat_lt, bit_or, []}
 use Rattle.std.proofs.Common.{◌∷◌, arith, ap, refl, false, inl, inr}
 use Rattle.std.specs.List.{list_all}
-use Rattle.std.specs.Str.{chars, chars_after, continuation_len, lead_bits, IsAscii, IsUtf8, is_utf8}
+use Rattle.std.specs.Str.{chars, chars_after, continuation_len, lead_bits, IsAscii}
 use Rattle.std.proofs.lemmas.Bool.{agree_below, agree_below_at, and_parts, cases_Bool}
 use Rattle.std.proofs.lemmas.Bool.Decides.{nat_tests}
-use Rattle.std.proofs.lemmas.Str.{chars-IsAscii, IsUtf8-from_is_utf8}
+use Rattle.std.proofs.lemmas.Str.{chars-IsAscii}
 use Rattle.std.proofs.lemmas.Str.Ascii.{IsAscii-nil, IsAscii-cons}
 
 plain_ascii : (bs : List ℕ) → list_all (λ b. nat_lt b 128) bs ≡ true → IsAscii bs
@@ -52,7 +52,3 @@ many_bytes bs most many few = elim (cases_Bool (list_all (λ b. nat_lt b 128) bs
   | inl plain ↦ let same = plain_length bs plain in absurd (omega arith)
   | inr e ↦ e
 ]
-
--- bytes that are not a text
-pub not_utf8 : (bs : List ℕ) → (IsUtf8 bs → ⊥) → is_utf8 bs ≡ false
-not_utf8 bs fails = elim (cases_Bool (is_utf8 bs)) [ inl t ↦ absurd (fails (IsUtf8-from_is_utf8 bs t)) | inr h ↦ h ]

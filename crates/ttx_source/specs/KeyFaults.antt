@@ -8,7 +8,7 @@
 --   in_no_memory, out_of_memory    a failed allocation, and its error
 --   IsReadUnlessMemory    a fact that holds unless an allocation failed
 use Rattle.std.specs.Prelude.{◌≡◌, ◌⊎◌, ℕ, List, codes, Result, Ok, Err}
-use Rattle.ttx_source.specs.Values.{Fault, not_toml, missing, wrong_kind, wrong_page_number, wrong_subcode, duplicate}
+use Rattle.ttx_source.specs.Values.{Fault, missing, wrong_kind, wrong_page_number, wrong_subcode, duplicate}
 use Rattle.ttx_source.specs.Values.{too_long, wrong_character, wrong_often, out_of_range, no_memory}
 use Rattle.ttx_source.specs.declared.faults.SourceError.{SourceError}
 use Rattle.ttx_source.specs.declared.faults.SourceFault.TheVariants as source
@@ -18,7 +18,7 @@ use Rattle.ttx_source.specs.declared.key_faults.KeyFault.{KeyFault}
 use Rattle.ttx_source.specs.declared.key_faults.KeyFault.TheVariants.{Missing, Kind, PageNumber, Subcode, Duplicate}
 use Rattle.ttx_source.specs.declared.key_faults.KeyFault.TheVariants.{RowTooLong, Character, Often, Range}
 use Rattle.ttx_source.specs.declared.key_faults.ReadFault.{ReadFault}
-use Rattle.ttx_source.specs.declared.key_faults.ReadFault.TheVariants.{NotToml, InPage, NoMemory}
+use Rattle.ttx_source.specs.declared.key_faults.ReadFault.TheVariants.{InPage, NoMemory}
 
 abbrev pub key_name : Key → List ℕ
 key_name key.Lines = codes "lines"
@@ -74,7 +74,6 @@ abbrev pub out_of_memory : SourceError
 out_of_memory = record { fault = source.NoMemory; page = 0 }
 
 abbrev pub read_fault_of : ReadFault → Fault × ℕ
-read_fault_of NotToml = (not_toml, 0)
 read_fault_of (InPage page fault) = (key_fault_of fault, page)
 read_fault_of NoMemory = (no_memory, 0)
 

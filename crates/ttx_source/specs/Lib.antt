@@ -1,4 +1,5 @@
 pub mod Accepted
+pub mod Documents
 pub mod Faults
 pub mod KeyFaults
 pub mod Keys

@@ -9,10 +9,9 @@
 use Rattle.std.specs.Prelude.{ℕ, ℤ, suc, ◌*◌, ◌/◌, ◌&&◌, ◌++◌, List, [], ◌∷◌, codes, Bool, Option, Some, None, Result, Ok, Err}
 use Rattle.std.specs.Prelude.{if◌then◌else◌, nat_le, is_some, Float}
 use Rattle.std.specs.Float.Ieee.{add, mul, of_bits, binary64, to_unsigned}
-use Rattle.std.specs.Str.{is_utf8}
 use Rattle.toml.specs.Data.{Data, string, integer, float, boolean, datetime, array, table, Items, no_items, item, Members, get_member, as_table}
-use Rattle.toml.specs.Parse.{parse_document}
-use Rattle.ttx_source.specs.Values.{Fault, not_toml, out_of_range, wrong_kind, ◌>>=◌, of_kind, integer_within}
+use Rattle.ttx_source.specs.Documents.{document_of, or_not_toml}
+use Rattle.ttx_source.specs.Values.{Fault, out_of_range, wrong_kind, ◌>>=◌, of_kind, integer_within}
 use Rattle.ttx_source.specs.Services.{in_page, page_tables}
 
 -- a page by its index in authored order, the fields of its promise, and whether it has the key `often`
@@ -73,12 +72,11 @@ abbrev pub promises_of : List ℕ → Members → Result (List PromiseFields) (F
 promises_of key keys = in_page 0 (page_tables keys) >>= promises_in key 0
 
 abbrev pub promises_or : List ℕ → Option Members → Result (List PromiseFields) (Fault × ℕ)
-promises_or key None = Err (not_toml, 0)
-promises_or key (Some keys) = promises_of key keys
+promises_or key document = or_not_toml document >>= promises_of key
 
 -- the promises of the service that a text is
 abbrev pub read_key : List ℕ → List ℕ → Result (List PromiseFields) (Fault × ℕ)
-read_key key bytes = if is_utf8 bytes then promises_or key (parse_document bytes) else Err (not_toml, 0)
+read_key key bytes = promises_or key (document_of bytes)
 
 abbrev pub read_promises : List ℕ → Result (List PromiseFields) (Fault × ℕ)
 read_promises bytes = read_key (codes "within") bytes

@@ -8,16 +8,15 @@
 --   settings_of, with_pages         a service without its pages, and with the pages of some tables added
 --   service_of, read_bytes          the service in a table, and in a text
 use Rattle.std.specs.Prelude.{◌≡◌, ◌≢◌, ℕ, zero, suc, ◌+◌, ◌≤◌, ◌++◌, List, [], ◌∷◌, codes, length, map, Bool, true}
-use Rattle.std.specs.Prelude.{◌&&◌, Option, Some, None, Result, Ok, Err, if◌then◌else◌, nat_lt, is_some}
+use Rattle.std.specs.Prelude.{◌&&◌, Option, Result, Ok, Err, if◌then◌else◌, nat_lt, is_some}
 use Rattle.std.specs.List.{list_any, All, AllPairs}
-use Rattle.std.specs.Str.{is_utf8}
 use Rattle.toml.specs.Data.{Data, Items, no_items, item, Members, as_str, as_array, as_table}
-use Rattle.toml.specs.Parse.{parse_document}
 use Rattle.ttx_header.specs.Ids.{Id, id_at, same_id}
 use Rattle.ttx_header.specs.Control.{c11}
 use Rattle.ttx_info.specs.Infos.{InfoFields}
 use Rattle.ttx_page.specs.Pages.{Page, page_at, IsPage}
-use Rattle.ttx_source.specs.Values.{Fault, not_toml, out_of_range, wrong_kind, duplicate, ◌>>=◌}
+use Rattle.ttx_source.specs.Documents.{document_of, or_not_toml}
+use Rattle.ttx_source.specs.Values.{Fault, out_of_range, wrong_kind, duplicate, ◌>>=◌}
 use Rattle.ttx_source.specs.Values.{of_kind, required, with_default, page_number, subcode}
 use Rattle.ttx_source.specs.Keys.{lines, serial, info, often, is_often, control_of_table, head, rows, links_of_table, count, zeros}
 
@@ -144,9 +143,8 @@ service_of table = do
   with_pages service pages
 
 abbrev pub service_in : Option Members → Result ServiceFields (Fault × ℕ)
-service_in None = Err (not_toml, 0)
-service_in (Some table) = service_of table
+service_in document = or_not_toml document >>= service_of
 
 -- the service in a text, which must be UTF-8 and a TOML document
 abbrev pub read_bytes : List ℕ → Result ServiceFields (Fault × ℕ)
-read_bytes bytes = if is_utf8 bytes then service_in (parse_document bytes) else Err (not_toml, 0)
+read_bytes bytes = service_in (document_of bytes)

@@ -40,11 +40,9 @@ impl KeyFault {
     }
 }
 
-/// Why a service definition cannot be read.
+/// Why the table of a service definition cannot be read.
 #[derive(Clone, Copy)]
 pub enum ReadFault {
-    /// The bytes are not a TOML document.
-    NotToml,
     /// A fault in the keys of a page, counted from 1, or of the service (page 0).
     InPage { page: usize, fault: KeyFault },
     /// An allocation failed.
@@ -58,10 +56,6 @@ impl ReadFault {
         ensures memory { self ≡ in_no_memory → result ≡ out_of_memory }
     {
         match self {
-            ReadFault::NotToml => SourceError {
-                fault: SourceFault::NotToml,
-                page: 0,
-            },
             ReadFault::InPage { page, fault } => SourceError {
                 fault: fault.source_fault(),
                 page,

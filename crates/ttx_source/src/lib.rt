@@ -2,6 +2,7 @@
 #![tactic(auto)]
 
 pub mod controls;
+pub mod documents;
 pub mod faults;
 pub mod info_table;
 pub mod key_faults;
@@ -15,6 +16,7 @@ pub mod services;
 pub mod texts;
 pub mod values;
 
+pub use documents::{Document, read_document, read_table};
 pub use faults::{SourceError, SourceFault};
 pub use promises::{Promise, promises_of_table, read_promises, read_stays, stays_of_table};
 pub use reader::{read_service, service_of_table};

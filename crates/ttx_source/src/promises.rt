@@ -7,6 +7,7 @@ ghost use Rattle.ttx_source.specs.KeyFaults.{key_name, key_outcome, read_outcome
 ghost use Rattle.ttx_source.specs.Promises as rule;
 ghost use Rattle.ttx_source.specs.PromiseViews.{promise_view, promise_list};
 
+use crate::documents::read_table;
 use crate::faults::SourceError;
 use crate::key_faults::{KeyFault, ReadFault};
 use crate::keys::Key;
@@ -142,20 +143,6 @@ fn promises_of(alloc: Global, key: Key, table: &Table) -> Result<Vec<Promise>, R
     }
 }
 
-// The promises of the service that a text is, or the first fault.
-fn read(alloc: Global, key: Key, bytes: &[u8]) -> Result<Vec<Promise>, ReadFault>
-    ensures { IsReadUnlessMemory result (read_outcome (λ ps. map promise_view ps.items) result ≡ rule.read_key (key_name key) bytes.now) }
-{
-    let Ok(text) = std::str::from_utf8(bytes) else {
-        return Err(ReadFault::NotToml);
-    };
-    match toml::table_from_str(alloc, text) {
-        Ok(table) => promises_of(alloc, key, &table),
-        Err(error) if error.is_memory() => Err(ReadFault::NoMemory),
-        Err(_) => Err(ReadFault::NotToml),
-    }
-}
-
 /// The promises of the service that a TOML text is, in authored order: of each page with a key `within` the seconds from 0.02 to 20000, an
 /// integer or a float, to the nearest microsecond and in whole fields of 0.02 s. A value of another kind or out of its range is refused, the
 /// first one with its page; so is what is no array of at most 2,000 tables at `page`. The other keys are not looked at: `read_service`
@@ -163,10 +150,8 @@ fn read(alloc: Global, key: Key, bytes: &[u8]) -> Result<Vec<Promise>, ReadFault
 pub fn read_promises(alloc: Global, bytes: &[u8]) -> Result<Vec<Promise>, SourceError>
     ensures { IsSourceUnlessMemory result (outcome_in_page (λ ps. map promise_view ps.items) result ≡ rule.read_promises bytes.now) }
 {
-    match read(alloc, Key::Within, bytes) {
-        Ok(promises) => Ok(promises),
-        Err(fault) => Err(fault.source_error()),
-    }
+    let table = read_table(alloc, bytes)?;
+    promises_of_table(alloc, &table)
 }
 
 /// The promises of the service in the table of a text, or the first fault, as `read_promises` reads them.
@@ -185,10 +170,8 @@ pub fn promises_of_table(alloc: Global, table: &Table) -> Result<Vec<Promise>, S
 pub fn read_stays(alloc: Global, bytes: &[u8]) -> Result<Vec<Promise>, SourceError>
     ensures { IsSourceUnlessMemory result (outcome_in_page (λ ps. map promise_view ps.items) result ≡ rule.read_stays bytes.now) }
 {
-    match read(alloc, Key::Stays, bytes) {
-        Ok(stays) => Ok(stays),
-        Err(fault) => Err(fault.source_error()),
-    }
+    let table = read_table(alloc, bytes)?;
+    stays_of_table(alloc, &table)
 }
 
 /// The stays of the service in the table of a text, or the first fault, as `read_stays` reads them.

@@ -12,6 +12,7 @@ ghost use Rattle.ttx_source.specs.Services as rule;
 ghost use Rattle.ttx_source.specs.Faults.{outcome_in_page, IsSourceUnlessMemory};
 ghost use Rattle.ttx_source.specs.KeyFaults.{key_outcome, read_outcome, IsReadUnlessMemory};
 
+use crate::documents::read_table;
 use crate::faults::SourceError;
 use crate::info_table::info;
 use crate::key_faults::{KeyFault, ReadFault};
@@ -123,29 +124,13 @@ fn service_of(alloc: Global, table: &Table) -> Result<Service, ReadFault>
     }
 }
 
-// The service in a text, or its first fault.
-fn read(alloc: Global, bytes: &[u8]) -> Result<Service, ReadFault>
-    ensures { IsReadUnlessMemory result (read_outcome (λ s. s) result ≡ rule.read_bytes bytes.now) }
-{
-    let Ok(text) = std::str::from_utf8(bytes) else {
-        return Err(ReadFault::NotToml);
-    };
-    match toml::table_from_str(alloc, text) {
-        Ok(table) => service_of(alloc, &table),
-        Err(error) if error.is_memory() => Err(ReadFault::NoMemory),
-        Err(_) => Err(ReadFault::NotToml),
-    }
-}
-
 /// Reads a service from a TOML text, or returns its first fault. The order of tests: `lines`, `serial`, `info`, whether `page` is an
 /// array of at most 2,000 tables, then page after page.
 pub fn read_service(alloc: Global, bytes: &[u8]) -> Result<Service, SourceError>
     ensures { IsSourceUnlessMemory result (outcome_in_page (λ s. s) result ≡ rule.read_bytes bytes.now) }
 {
-    match read(alloc, bytes) {
-        Ok(service) => Ok(service),
-        Err(fault) => Err(fault.source_error()),
-    }
+    let table = read_table(alloc, bytes)?;
+    service_of_table(alloc, &table)
 }
 
 /// The service in the table of a text, or its first fault, as `read_service` reads it.

@@ -2,13 +2,11 @@
 --
 --   IsPromisedText          the service and the promises of a text
 --   no_memory               the error of a failed allocation
---   IsDocumentOf, IsDocumentFault           the table in which a service, its promises and its stays are; why a text has none
 --   IsFaultBy, DefinesBy    why there is no service with promises, by how both are read, and what is returned
 --   IsPromisedFault, DefinesPromised        the same for a text
 --   IsNoPromisedText, ReadsPromised         the same for a text that is read
 --   IsNoPromisedInput, ReadsPromisedInputs  the same for a packet file and a text
-use Rattle.std.specs.Prelude.{◌≡◌, ◌⊎◌, ℕ, ◌≤◌, List, codes, map, length, ⊤, Result, Ok, Err}
-use Rattle.toml.specs.Data.{Members}
+use Rattle.std.specs.Prelude.{◌≡◌, ◌⊎◌, ℕ, ◌≤◌, List, map, length, ⊤, Result, Ok, Err}
 use Rattle.ttx_cycle.specs.Bounded.{most_bytes}
 use Rattle.ttx_cycle.specs.Cycles.{slots_of}
 use Rattle.ttx_cycle.specs.Files.{IsPacketFile}
@@ -17,8 +15,8 @@ use Rattle.ttx_files.specs.Texts.{IsServiceText}
 use Rattle.ttx_files.specs.declared.faults.FilesFault.TheVariants.{Cycle, Service, NoMemory}
 use Rattle.ttx_source.specs.Faults.{fault_of}
 use Rattle.ttx_source.specs.PromiseViews.{promise_view}
-use Rattle.ttx_source.specs.Promises.{PromiseFields, promises_of, read_promises, read_stays}
-use Rattle.ttx_source.specs.Services.{ServiceFields, read_bytes, service_of}
+use Rattle.ttx_source.specs.Promises.{PromiseFields, read_promises}
+use Rattle.ttx_source.specs.Services.{ServiceFields, read_bytes}
 use Rattle.ttx_source.specs.Values.{Fault}
 use Rattle.ttx_source.specs.declared.faults.SourceError.{SourceError}
 use Rattle.ttx_source.specs.declared.faults.SourceFault.TheVariants as source
@@ -34,16 +32,6 @@ no_memory = record { fault = source.NoMemory; page = 0 }
 pub record IsPromisedText (bytes : List ℕ) (service : ServiceFields) (promises : List PromiseFields) : Type 0 where
   pub text : IsServiceText bytes service
   pub promised : read_promises bytes ≡ Ok promises
-
--- a text as the document in which its service, its promises and its stays are
-pub record IsDocumentOf (bytes : List ℕ) (keys : Members) : Type 0 where
-  pub service : read_bytes bytes ≡ service_of keys
-  pub promises : read_promises bytes ≡ promises_of (codes "within") keys
-  pub stays : read_stays bytes ≡ promises_of (codes "stays") keys
-
--- why a text is no document
-abbrev pub IsDocumentFault : List ℕ → SourceError → Type 0
-IsDocumentFault bytes error = (error ≡ no_memory) ⊎ (read_bytes bytes ≡ Err (fault_of error.fault, error.page))
 
 -- why a service is refused, or its promises are
 abbrev pub IsFaultBy : Result ServiceFields (Fault × ℕ) → Result (List PromiseFields) (Fault × ℕ) → SourceError → Type 0

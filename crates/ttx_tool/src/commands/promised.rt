@@ -1,13 +1,13 @@
 //! What is read of the text of a service with promises, alone and after a packet file.
 
-ghost use Rattle.std.specs.Prelude.{◌≡◌, ◌∷◌, [], IfErr, IfOk, IfSome, codes};
+ghost use Rattle.std.specs.Prelude.{◌∷◌, [], IfSome, codes};
 ghost use Rattle.toml.specs.View.{table_view};
 ghost use Rattle.ttx_cycle.specs.Counters.{inner_of};
 ghost use Rattle.ttx_files.specs.Devices.{AtCycle, AtService};
 ghost use Rattle.ttx_source.specs.Promises.{promises_of};
 ghost use Rattle.ttx_source.specs.Services.{service_of};
 ghost use Rattle.ttx_tool.specs.Devices.{Reads, read_from};
-ghost use Rattle.ttx_tool.specs.Promised.{IsDocumentOf, IsDocumentFault, DefinesBy, DefinesPromised, ReadsPromised, ReadsPromisedInputs};
+ghost use Rattle.ttx_tool.specs.Promised.{DefinesBy, DefinesPromised, ReadsPromised, ReadsPromisedInputs};
 
 use crate::faults::ToolFault;
 use std::alloc::Global;
@@ -15,7 +15,7 @@ use std::io::Read;
 use toml::Table;
 use ttx_cycle::{Counted, Cycle};
 use ttx_files::{FilesFault, read_packets, read_service_text};
-use ttx_source::{Promise, Service, SourceError, SourceFault, promises_of_table, service_of_table};
+use ttx_source::{Promise, Service, SourceError, promises_of_table, read_table, service_of_table};
 
 /// A service, and its promises.
 #[derive(Drop)]
@@ -31,30 +31,6 @@ pub(super) struct PromisedInputs {
     pub promised: Promised,
 }
 
-/// The table of a text, from which the service, its promises and its stays are read.
-pub(super) fn document(alloc: Global, bytes: &[u8]) -> Result<Table, SourceError>
-    ensures read { IfOk result (λ table. IsDocumentOf bytes.now (table_view table)) }
-    ensures fault { IfErr result (λ error. IsDocumentFault bytes.now error) }
-{
-    let Ok(text) = std::str::from_utf8(bytes) else {
-        return Err(SourceError {
-            fault: SourceFault::NotToml,
-            page: 0,
-        });
-    };
-    match toml::table_from_str(alloc, text) {
-        Ok(table) => Ok(table),
-        Err(error) if error.is_memory() => Err(SourceError {
-            fault: SourceFault::NoMemory,
-            page: 0,
-        }),
-        Err(_) => Err(SourceError {
-            fault: SourceFault::NotToml,
-            page: 0,
-        }),
-    }
-}
-
 /// The service and the promises in the table of a text.
 pub(super) fn define_table(alloc: Global, table: &Table) -> Result<Promised, SourceError>
     ensures { DefinesBy (service_of (table_view table.now)) (promises_of (codes "within") (table_view table.now)) result }
@@ -68,7 +44,7 @@ pub(super) fn define_table(alloc: Global, table: &Table) -> Result<Promised, Sou
 pub(super) fn define(alloc: Global, text: &[u8]) -> Result<Promised, SourceError>
     ensures { DefinesPromised text.now result }
 {
-    let table = document(alloc, text)?;
+    let table = read_table(alloc, text)?;
     define_table(alloc, &table)
 }
 

@@ -6,13 +6,13 @@ ghost use Rattle.ttx_files.specs.Devices.{AtService};
 ghost use Rattle.ttx_tool.specs.Devices.{Reads, read_from};
 ghost use Rattle.ttx_tool.specs.SpreadPlans.{DefinesStaying, ReadsStaying};
 
-use super::promised::{Promised, define_table, document};
+use super::promised::{Promised, define_table};
 use crate::faults::ToolFault;
 use std::alloc::Global;
 use std::io::Read;
 use ttx_cycle::Counted;
 use ttx_files::{FilesFault, read_service_text};
-use ttx_source::{Promise, SourceError, stays_of_table};
+use ttx_source::{Promise, SourceError, read_table, stays_of_table};
 
 /// A service with its promises, and its stays.
 #[derive(Drop)]
@@ -25,7 +25,7 @@ pub(super) struct Staying {
 fn define_stays(alloc: Global, text: &[u8]) -> Result<Staying, SourceError>
     ensures { DefinesStaying text.now result }
 {
-    let table = document(alloc, text)?;
+    let table = read_table(alloc, text)?;
     let promised = define_table(alloc, &table)?;
     let stays = stays_of_table(alloc, &table)?;
     Ok(Staying { promised, stays })

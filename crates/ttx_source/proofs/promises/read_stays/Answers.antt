@@ -1,5 +1,0 @@
-use Rattle.ttx_source.proofs.SourceErrors.{told}
-use Rattle.ttx_source.proofs.promises.read_stays.Goals as goal
-
-pub returns-in-Err : goal.returns-in-Err
-returns-in-Err c = told c.in-Err.fault c.source_error.result _ c.source_error.ensures.fault c.source_error.ensures.memory c.in-Err.ensures
