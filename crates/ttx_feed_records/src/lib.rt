@@ -2,11 +2,9 @@
 #![tactic(auto)]
 
 mod breaches;
-mod feeds;
 mod members;
 mod reports;
-mod rows;
+mod verdicts;
 
-pub use feeds::monitor_feed_json;
 pub use reports::{Objects, report_feed_json};
-pub use rows::monitor_rows_json;
+pub use verdicts::{monitor_feed_json, monitor_rows_json};

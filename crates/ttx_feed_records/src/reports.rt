@@ -10,8 +10,8 @@ ghost use Rattle.ttx_monitor.specs.FeedReports.{ReportsFeed};
 ghost use Rattle.ttx_feed_records.specs.ReportRecords as rule;
 
 use crate::breaches::push_breach;
-use crate::feeds::push_verdict;
 use crate::members::{At, push_shifted, push_with_rest};
+use crate::verdicts::Recorded;
 use std::alloc::{AllocError, Global};
 use std::io::{Read, Write};
 use ttx_cycle::Counted;
@@ -67,7 +67,7 @@ impl Wording for Objects {
         pages: &[Page],
         verdict: FeedVerdict,
     ) -> Result<(), AllocError> {
-        push_verdict(alloc, text, pages, verdict)
+        verdict.push(alloc, text, pages)
     }
 
     fn push_broken(
