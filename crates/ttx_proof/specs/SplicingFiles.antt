@@ -7,7 +7,6 @@
 --   IsSpliceAnswer, IsSentAnswer    the verdict on a splice, and its line; the same when the old cycle has been sent for some periods
 --   AreSixWith              the six files are accepted, and a property holds for their splice
 --   JudgesSix, AnswersSix   the verdict on the six files, with its line, or why they are refused; what is returned and written for them
---   SplicesFiles, SplicesSentFiles  the same for the two verdicts
 use Rattle.std.specs.Prelude.{◌≡◌, ◌⊎◌, ℕ, List, ⊤, Option, IfSome, Result, Ok, Err}
 use Rattle.ttx_cycle.specs.Cycles.{slots_of}
 use Rattle.ttx_source.specs.Services.{ServiceFields, pages_of}
@@ -114,12 +113,3 @@ module _ {V : Type 0} (Says : Splice → V → List ℕ → Type 0) where
       Option (List ℕ) → Option (List ℕ) → Result V FilesFault → Type 0
   AnswersSix a b c d e f old new result =
       WritesAnswer (λ verdict line. AreSixWith a b c d e f (λ s. Says s verdict line)) (IsSixRefused a b c d e f) old new result
-
-abbrev pub SplicesFiles : Option (List ℕ) → Option (List ℕ) → Option (List ℕ) → Option (List ℕ) → Option (List ℕ) → Option (List ℕ) →
-    Option (List ℕ) → Option (List ℕ) → Result SpliceVerdict FilesFault → Type 0
-SplicesFiles = AnswersSix IsSpliceAnswer
-
--- the same when the old cycle has been sent for this many periods
-abbrev pub SplicesSentFiles : Option (List ℕ) → Option (List ℕ) → Option (List ℕ) → Option (List ℕ) → Option (List ℕ) → Option (List ℕ) → ℕ →
-    Option (List ℕ) → Option (List ℕ) → Result SentVerdict FilesFault → Type 0
-SplicesSentFiles a b c d e f periods = AnswersSix (λ s. IsSentAnswer s periods) a b c d e f
