@@ -1,11 +1,8 @@
--- What is returned and written when the six files of a splice are judged for receivers that show a page only where it ends.
+-- The verdict on a splice for receivers that show a page only where it ends, with its line.
 --
---   IsLateAnswer            the verdict on a splice, and its line
---   SplicesLateFiles        what is returned and written for the six files
-use Rattle.std.specs.Prelude.{◌≡◌, ℕ, List, Option, Result}
-use Rattle.ttx_files.specs.declared.faults.FilesFault.{FilesFault}
+--   IsLateAnswer            the verdict, and its line
+use Rattle.std.specs.Prelude.{◌≡◌, ℕ, List, Option}
 use Rattle.ttx_proof.specs.Splices.{Splice}
-use Rattle.ttx_proof.specs.SplicingFiles.{AnswersSix}
 use Rattle.ttx_change.specs.LateSplices.{IsLateSplice, MeansLate}
 use Rattle.ttx_change.specs.LateSpliceLines.{late_splice_line}
 use Rattle.ttx_change.specs.declared.verdict.LateSplice.{LateSplice}
@@ -14,7 +11,3 @@ pub record IsLateAnswer (c : Splice) (periods : Option ℕ) (verdict : LateSplic
   pub exact : IsLateSplice c periods verdict
   pub seen : MeansLate c verdict
   pub line_is : line ≡ late_splice_line verdict
-
-abbrev pub SplicesLateFiles : Option (List ℕ) → Option (List ℕ) → Option (List ℕ) → Option (List ℕ) → Option (List ℕ) → Option (List ℕ) →
-    Option ℕ → Option (List ℕ) → Option (List ℕ) → Result LateSplice FilesFault → Type 0
-SplicesLateFiles a b c d e f periods = AnswersSix (λ s. IsLateAnswer s periods) a b c d e f

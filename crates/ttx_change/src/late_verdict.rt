@@ -6,14 +6,12 @@ ghost use Rattle.ttx_proof.specs.SentVerdicts.{SentMeans};
 ghost use Rattle.ttx_proof.specs.SplicingFiles.{splice_in};
 ghost use Rattle.ttx_proof.specs.Splices.{Splice};
 ghost use Rattle.ttx_proof.specs.Verdicts.{IsSpliceVerdict, SpliceMeans};
-ghost use Rattle.ttx_change.specs.LateSplices.{IsJudged, IsLateSplice, MeansLate, TellsOpen};
+ghost use Rattle.ttx_change.specs.LateSplices.{IsJudged, IsLateSplice, MeansLate};
 
+use crate::editions::left_open;
 use crate::verdict::LateSplice;
 use std::alloc::Global;
-use ttx_playout::first_unfollowed;
-use ttx_proof::{
-    SentVerdict, Six, SpliceVerdict, first_amid, first_stored, sent_verdict, splice_six,
-};
+use ttx_proof::{SentVerdict, Six, SpliceVerdict, sent_verdict, splice_six};
 use ttx_witness::NoMemory;
 
 // The values of the files are in their ranges.
@@ -49,31 +47,6 @@ fn judged(alloc: Global, six: &Six, sent: Option<u32>) -> Result<SentVerdict, No
     }
 }
 
-// What the old cycle leaves open at the change; Yes if nothing.
-fn left_open(six: &Six) -> LateSplice
-    ensures { TellsOpen (splice_in six.now) result }
-{
-    let (old, new) = (&six.cycles.old, &six.cycles.new);
-    let pages = six.services.old.pages();
-    if let Some(amid) = first_amid(old, pages) {
-        return LateSplice::Amid {
-            page: amid.page,
-            slot: amid.slot,
-        };
-    }
-    if let Some(stored) = first_stored(old, new, pages) {
-        return LateSplice::Stored {
-            page: stored.page,
-            slot: stored.slot,
-        };
-    }
-    let most = old.slots().len() + new.slots().len();
-    match first_unfollowed(old, new, pages, most) {
-        Some(page) => LateSplice::Unfollowed { page },
-        None => LateSplice::Yes,
-    }
-}
-
 /// The verdict on the splice of six files, after `sent` periods of the old cycle if that is known, and if it is yes, whether the old cycle
 /// leaves something open: an item of a page that is still to come, a page in which the new cycle would be stored, or one that no other
 /// page number follows.
@@ -90,7 +63,11 @@ pub fn late_splice(alloc: Global, six: &Six, sent: Option<u32>) -> Result<LateSp
     has_ranges(six);
     let verdict = judged(alloc, six, sent)?;
     match verdict {
-        SentVerdict::Yes => Ok(left_open(six)),
+        SentVerdict::Yes => Ok(left_open(
+            &six.cycles.old,
+            &six.cycles.new,
+            six.services.old.pages(),
+        )),
         SentVerdict::No(_) | SentVerdict::TooSoon { left: _ } => Ok(LateSplice::No(verdict)),
     }
 }

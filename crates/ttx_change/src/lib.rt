@@ -14,5 +14,5 @@ pub use editions::open_between;
 pub use late_verdict::late_splice;
 pub use lines::late_splice_line;
 pub use on_air::judge_whole;
-pub use spliced_files::splice_files_late;
+pub use spliced_files::Late;
 pub use verdict::{LateSplice, WholeChange};

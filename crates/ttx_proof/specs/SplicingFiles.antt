@@ -1,13 +1,12 @@
 -- What is returned and written when the six files of a splice are judged: two packet files, two service definitions, two certificates.
 --
 --   AreTwo, RefusesTwo      what two files of one kind are; the first is refused, or it is accepted and the second is refused
---   ReadsCycles, ReadsServices, ReadsWitnesses      the two files of each kind, in their order
+--   ReadsTwo                both, in their order, or why they are refused
 --   RefusesSix              the first of the six files that is refused
 --   ReadsSix                all six, or why they are refused
 --   IsSpliceAnswer, IsSentAnswer    the verdict on a splice, and its line; the same when the old cycle has been sent for some periods
 --   AreSixWith              the six files are accepted, and a property holds for their splice
 --   JudgesSix, AnswersSix   the verdict on the six files, with its line, or why they are refused; what is returned and written for them
---   SplicesFiles, SplicesSentFiles  the same for the two verdicts
 use Rattle.std.specs.Prelude.{◌≡◌, ◌⊎◌, ℕ, List, ⊤, Option, IfSome, Result, Ok, Err}
 use Rattle.ttx_cycle.specs.Cycles.{slots_of}
 use Rattle.ttx_source.specs.Services.{ServiceFields, pages_of}
@@ -24,10 +23,8 @@ use Rattle.ttx_proof.specs.Splices.{Splice}
 use Rattle.ttx_proof.specs.SentVerdicts.{IsSentVerdict, SentMeans}
 use Rattle.ttx_proof.specs.SpliceLines.{splice_line, sent_line}
 use Rattle.ttx_proof.specs.Verdicts.{IsSpliceVerdict, SpliceMeans}
-use Rattle.ttx_proof.specs.declared.six_files.Cycles.{Cycles}
-use Rattle.ttx_proof.specs.declared.six_files.Services.{Services}
-use Rattle.ttx_proof.specs.declared.six_files.Witnesses.{Witnesses}
 use Rattle.ttx_proof.specs.declared.six_files.Six.{Six}
+use Rattle.ttx_proof.specs.declared.six_files.Two.{Two}
 use Rattle.ttx_proof.specs.declared.sent.SentVerdict.{SentVerdict}
 use Rattle.ttx_proof.specs.declared.verdict.SpliceVerdict.{SpliceVerdict}
 
@@ -38,17 +35,10 @@ abbrev pub RefusesTwo : {T : Type 0} → (List ℕ → Result T FilesFault → T
 RefusesTwo {T} Reads a b fault = IfSome a (λ x. Reads x (Err fault))
     ⊎ (((t : T) × IfSome a (λ x. Reads x (Ok t))) × IfSome b (λ y. Reads y (Err fault)))
 
-abbrev pub ReadsCycles : Option (List ℕ) → Option (List ℕ) → Result Cycles FilesFault → Type 0
-ReadsCycles a b (Ok two) = AreTwo ReadsPackets a b (slots_of two.old) (slots_of two.new)
-ReadsCycles a b (Err fault) = RefusesTwo ReadsPackets a b fault
-
-abbrev pub ReadsServices : Option (List ℕ) → Option (List ℕ) → Result Services FilesFault → Type 0
-ReadsServices a b (Ok two) = AreTwo ReadsService a b two.old two.new
-ReadsServices a b (Err fault) = RefusesTwo ReadsService a b fault
-
-abbrev pub ReadsWitnesses : Option (List ℕ) → Option (List ℕ) → Result Witnesses FilesFault → Type 0
-ReadsWitnesses a b (Ok two) = AreTwo ReadsWitness a b (fields_of two.old) (fields_of two.new)
-ReadsWitnesses a b (Err fault) = RefusesTwo ReadsWitness a b fault
+abbrev pub ReadsTwo : {T V : Type 0} → (List ℕ → Result V FilesFault → Type 0) → (T → V) → Option (List ℕ) → Option (List ℕ) →
+    Result (Two T) FilesFault → Type 0
+ReadsTwo Reads view a b (Ok two) = AreTwo Reads a b (view two.old) (view two.new)
+ReadsTwo Reads view a b (Err fault) = RefusesTwo Reads a b fault
 
 -- the two files of a kind are accepted
 abbrev pub Right : {T : Type 0} → (List ℕ → Result T FilesFault → Type 0) → Option (List ℕ) → Option (List ℕ) → Type 0
@@ -114,12 +104,3 @@ module _ {V : Type 0} (Says : Splice → V → List ℕ → Type 0) where
       Option (List ℕ) → Option (List ℕ) → Result V FilesFault → Type 0
   AnswersSix a b c d e f old new result =
       WritesAnswer (λ verdict line. AreSixWith a b c d e f (λ s. Says s verdict line)) (IsSixRefused a b c d e f) old new result
-
-abbrev pub SplicesFiles : Option (List ℕ) → Option (List ℕ) → Option (List ℕ) → Option (List ℕ) → Option (List ℕ) → Option (List ℕ) →
-    Option (List ℕ) → Option (List ℕ) → Result SpliceVerdict FilesFault → Type 0
-SplicesFiles = AnswersSix IsSpliceAnswer
-
--- the same when the old cycle has been sent for this many periods
-abbrev pub SplicesSentFiles : Option (List ℕ) → Option (List ℕ) → Option (List ℕ) → Option (List ℕ) → Option (List ℕ) → Option (List ℕ) → ℕ →
-    Option (List ℕ) → Option (List ℕ) → Result SentVerdict FilesFault → Type 0
-SplicesSentFiles a b c d e f periods = AnswersSix (λ s. IsSentAnswer s periods) a b c d e f

@@ -32,6 +32,6 @@ pub use periods::{sent_line, sent_verdict};
 pub use seams::latest_header;
 pub use sent::SentVerdict;
 pub use six_files::Six;
-pub use spliced_files::{splice_files, splice_files_sent, splice_six};
+pub use spliced_files::{AfterPeriods, AtAnyTime, splice_six};
 pub use verdict::{SpliceReason, SpliceVerdict};
 pub use verdict_line::{SpliceJudge, answer_six};

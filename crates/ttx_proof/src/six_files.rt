@@ -1,9 +1,12 @@
 //! Reads the files of a splice: two packet files, two service definitions and two certificates.
 
 ghost use Rattle.std.specs.Prelude.{IfOk, ◌∷◌, []};
+ghost use Rattle.ttx_certificate.specs.Certificates.{fields_of};
 ghost use Rattle.ttx_cycle.specs.Counters.{inner_of, faults_of};
+ghost use Rattle.ttx_cycle.specs.Cycles.{slots_of};
 ghost use Rattle.ttx_files.specs.Devices.{AtCycle, AtService, AtCertificate, input, failed_at, IsRight, IsFirstFailure};
-ghost use Rattle.ttx_proof.specs.SplicingFiles.{ReadsCycles, ReadsServices, ReadsWitnesses, ReadsSix};
+ghost use Rattle.ttx_files.specs.Texts.{ReadsPackets, ReadsService, ReadsWitness};
+ghost use Rattle.ttx_proof.specs.SplicingFiles.{ReadsTwo, ReadsSix};
 
 use std::alloc::Global;
 use std::io::Read;
@@ -12,51 +15,37 @@ use ttx_files::{FilesFault, read_definition, read_packets, read_witness};
 use ttx_source::Service;
 use ttx_witness::Certificate;
 
-/// The packet files of a splice.
+/// Two files of one kind.
 #[derive(Drop)]
-pub struct Cycles {
-    pub old: Cycle,
-    pub new: Cycle,
-}
-
-/// Its service definitions.
-#[derive(Drop)]
-pub struct Services {
-    pub old: Service,
-    pub new: Service,
-}
-
-/// Its certificates.
-#[derive(Drop)]
-pub struct Witnesses {
-    pub old: Certificate,
-    pub new: Certificate,
+pub struct Two<T> {
+    pub old: T,
+    pub new: T,
 }
 
 /// The contents of the six files.
 #[derive(Drop)]
 pub struct Six {
-    pub cycles: Cycles,
-    pub services: Services,
-    pub witnesses: Witnesses,
+    pub cycles: Two<Cycle>,
+    pub services: Two<Service>,
+    pub witnesses: Two<Certificate>,
 }
 
 fn read_cycles<A: Read, B: Read>(
     alloc: Global,
     old: &mut Counted<A>,
     new: &mut Counted<B>,
-) -> Result<Cycles, FilesFault>
+) -> Result<Two<Cycle>, FilesFault>
     ensures right { IfOk result (λ _. IsRight AtCycle (A.remaining (inner_of old.old)) × IsRight AtCycle (B.remaining (inner_of new.old))) }
     ensures faults { IsFirstFailure (input AtCycle (A.remaining (inner_of old.old)) (faults_of old.old) (faults_of old.new)
         ∷ input AtCycle (B.remaining (inner_of new.old)) (faults_of new.old) (faults_of new.new) ∷ []) (failed_at result) }
-    ensures bytes { ReadsCycles (A.remaining (inner_of old.old)) (B.remaining (inner_of new.old)) result }
+    ensures bytes { ReadsTwo ReadsPackets slots_of (A.remaining (inner_of old.old)) (B.remaining (inner_of new.old)) result }
 {
     let old = match read_packets(alloc, old) {
         Ok(cycle) => cycle,
         Err(fault) => return Err(fault),
     };
     match read_packets(alloc, new) {
-        Ok(new) => Ok(Cycles { old, new }),
+        Ok(new) => Ok(Two { old, new }),
         Err(fault) => Err(fault),
     }
 }
@@ -65,18 +54,18 @@ fn read_services<A: Read, B: Read>(
     alloc: Global,
     old: &mut Counted<A>,
     new: &mut Counted<B>,
-) -> Result<Services, FilesFault>
+) -> Result<Two<Service>, FilesFault>
     ensures right { IfOk result (λ _. IsRight AtService (A.remaining (inner_of old.old)) × IsRight AtService (B.remaining (inner_of new.old))) }
     ensures faults { IsFirstFailure (input AtService (A.remaining (inner_of old.old)) (faults_of old.old) (faults_of old.new)
         ∷ input AtService (B.remaining (inner_of new.old)) (faults_of new.old) (faults_of new.new) ∷ []) (failed_at result) }
-    ensures bytes { ReadsServices (A.remaining (inner_of old.old)) (B.remaining (inner_of new.old)) result }
+    ensures bytes { ReadsTwo ReadsService (λ service. service) (A.remaining (inner_of old.old)) (B.remaining (inner_of new.old)) result }
 {
     let old = match read_definition(alloc, old) {
         Ok(service) => service,
         Err(fault) => return Err(fault),
     };
     match read_definition(alloc, new) {
-        Ok(new) => Ok(Services { old, new }),
+        Ok(new) => Ok(Two { old, new }),
         Err(fault) => Err(fault),
     }
 }
@@ -85,18 +74,18 @@ fn read_witnesses<A: Read, B: Read>(
     alloc: Global,
     old: &mut Counted<A>,
     new: &mut Counted<B>,
-) -> Result<Witnesses, FilesFault>
+) -> Result<Two<Certificate>, FilesFault>
     ensures right { IfOk result (λ _. IsRight AtCertificate (A.remaining (inner_of old.old)) × IsRight AtCertificate (B.remaining (inner_of new.old))) }
     ensures faults { IsFirstFailure (input AtCertificate (A.remaining (inner_of old.old)) (faults_of old.old) (faults_of old.new)
         ∷ input AtCertificate (B.remaining (inner_of new.old)) (faults_of new.old) (faults_of new.new) ∷ []) (failed_at result) }
-    ensures bytes { ReadsWitnesses (A.remaining (inner_of old.old)) (B.remaining (inner_of new.old)) result }
+    ensures bytes { ReadsTwo ReadsWitness fields_of (A.remaining (inner_of old.old)) (B.remaining (inner_of new.old)) result }
 {
     let old = match read_witness(alloc, old) {
         Ok(certificate) => certificate,
         Err(fault) => return Err(fault),
     };
     match read_witness(alloc, new) {
-        Ok(new) => Ok(Witnesses { old, new }),
+        Ok(new) => Ok(Two { old, new }),
         Err(fault) => Err(fault),
     }
 }

@@ -1,4 +1,4 @@
-//! Changes from one cycle to another after so many periods of the old one: what `splice_files_sent` returns, and what a head-end does.
+//! Changes from one cycle to another after so many periods of the old one: what `answer_six` returns, and what a head-end does.
 
 use crate::base::{self, SERVICE, certificate_text};
 use std::alloc::{AllocError, Global};
@@ -7,7 +7,7 @@ use ttx_certify::FilesFault;
 use ttx_cycle::faulty::{FaultyReader, FaultyWriter};
 use ttx_cycle::{Counted, Cycle};
 use ttx_playout::{ChangeFault, Edition, OnAir};
-use ttx_proof::{SentVerdict, SpliceReason, splice_files_sent};
+use ttx_proof::{AfterPeriods, SentVerdict, SpliceReason, answer_six};
 use ttx_source::read_service;
 use ttx_witness::read_certificate;
 
@@ -42,15 +42,15 @@ fn changed(
     let mut old_certificate = Counted::new(FaultyReader::new(first, 11, None));
     let mut new_certificate = Counted::new(FaultyReader::new(second, 12, None));
     let mut writer = Counted::new(FaultyWriter::new(room, 7, None));
-    let answer = splice_files_sent(
+    let answer = answer_six(
         alloc,
+        &AfterPeriods(periods),
         &mut old,
         &mut new,
         &mut old_service,
         &mut new_service,
         &mut old_certificate,
         &mut new_certificate,
-        periods,
         &mut writer,
     );
     (answer, writer.get_ref().taken().len())

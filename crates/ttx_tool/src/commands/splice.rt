@@ -1,21 +1,21 @@
 //! `splice`: the change from an old cycle to a new one.
 
-ghost use Rattle.std.specs.Prelude.{◌≡◌, true, false, Some, None};
 ghost use Rattle.ttx_cycle.specs.Counters.{inner_of};
 ghost use Rattle.ttx_files.specs.Answers.{IsUntouched};
 ghost use Rattle.ttx_files.specs.Devices.{IsFirstFailure};
 ghost use Rattle.ttx_tool.specs.Answers.{splice_status, sent_status, late_splice_status};
 ghost use Rattle.ttx_tool.specs.Claims.{change_devices};
 ghost use Rattle.ttx_tool.specs.Devices.{is_tool_write, failed_at};
-ghost use Rattle.ttx_tool.specs.Splice.{Splices};
+ghost use Rattle.ttx_tool.specs.Splice.{AnswersChange, Splices};
 
 use crate::claims::Claim;
+use crate::commands::certify::Status;
 use crate::faults::ToolFault;
 use std::alloc::Global;
 use std::io::{Read, Write};
-use ttx_change::{LateSplice, splice_files_late};
+use ttx_change::{Late, LateSplice};
 use ttx_cycle::Counted;
-use ttx_proof::{SentVerdict, SpliceVerdict, splice_files, splice_files_sent};
+use ttx_proof::{AfterPeriods, AtAnyTime, SentVerdict, SpliceJudge, SpliceVerdict, answer_six};
 
 /// What a change is judged for.
 #[derive(Clone, Copy)]
@@ -26,51 +26,61 @@ pub struct Splicing {
     pub late: bool,
 }
 
-fn splice_status(verdict: SpliceVerdict) -> u8
-    ensures { result ≡ splice_status verdict }
-{
-    match verdict {
-        SpliceVerdict::Yes => 0,
-        SpliceVerdict::No(_) => 1,
+impl Status for SpliceVerdict {
+    ghost status = { splice_status };
+
+    fn status(&self) -> u8 {
+        match self {
+            SpliceVerdict::Yes => 0,
+            SpliceVerdict::No(_) => 1,
+        }
     }
 }
 
-fn sent_status(verdict: SentVerdict) -> u8
-    ensures { result ≡ sent_status verdict }
-{
-    match verdict {
-        SentVerdict::Yes => 0,
-        SentVerdict::No(_) | SentVerdict::TooSoon { left: _ } => 1,
+impl Status for SentVerdict {
+    ghost status = { sent_status };
+
+    fn status(&self) -> u8 {
+        match self {
+            SentVerdict::Yes => 0,
+            SentVerdict::No(_) | SentVerdict::TooSoon { left: _ } => 1,
+        }
     }
 }
 
-fn late_splice_status(verdict: LateSplice) -> u8
-    ensures { result ≡ late_splice_status verdict }
-{
-    match verdict {
-        LateSplice::Yes => 0,
-        LateSplice::No(_)
-        | LateSplice::Amid { .. }
-        | LateSplice::Stored { .. }
-        | LateSplice::Unfollowed { page: _ } => 1,
+impl Status for LateSplice {
+    ghost status = { late_splice_status };
+
+    fn status(&self) -> u8 {
+        match self {
+            LateSplice::Yes => 0,
+            LateSplice::No(_)
+            | LateSplice::Amid { .. }
+            | LateSplice::Stored { .. }
+            | LateSplice::Unfollowed { page: _ } => 1,
+        }
     }
 }
 
-// The verdict where the old cycle has been on the air for any time.
-fn splice<A: Read, B: Read, C: Read, D: Read, E: Read, F: Read, W: Write>(
+// Reads the files of two claims, writes what a judge says of the change from the old one to the new one, and gives the status of the verdict.
+fn answer<J: SpliceJudge, A: Read, B: Read, C: Read, D: Read, E: Read, F: Read, W: Write>(
     alloc: Global,
+    judge: &J,
     old: &mut Claim<A, C, E>,
     new: &mut Claim<B, D, F>,
     writer: &mut Counted<W>,
 ) -> Result<u8, ToolFault>
-    ensures bytes { Splices false None A.remaining B.remaining C.remaining D.remaining E.remaining F.remaining old.old new.old
-        (W.contents (inner_of writer.old)) (W.contents (inner_of writer.new)) result }
+where
+    J::Verdict: Status,
+    ensures bytes { AnswersChange J.Verdict.status (J.says judge.now) A.remaining B.remaining C.remaining D.remaining E.remaining F.remaining
+        old.old new.old (W.contents (inner_of writer.old)) (W.contents (inner_of writer.new)) result }
     ensures faults { IsFirstFailure (change_devices A.remaining B.remaining C.remaining D.remaining E.remaining F.remaining
         old.old new.old old.new new.new writer.old writer.new) (failed_at result) }
     ensures untouched { IsUntouched is_tool_write result writer.old writer.new }
 {
-    match splice_files(
+    match answer_six(
         alloc,
+        judge,
         &mut old.cycle,
         &mut new.cycle,
         &mut old.service,
@@ -79,67 +89,7 @@ fn splice<A: Read, B: Read, C: Read, D: Read, E: Read, F: Read, W: Write>(
         &mut new.certificate,
         writer,
     ) {
-        Ok(verdict) => Ok(splice_status(verdict)),
-        Err(fault) => Err(ToolFault::Files(fault)),
-    }
-}
-
-// The same for so many periods. A change that would be accepted is refused as too soon if these have fewer slots than the old deadline.
-fn splice_sent<A: Read, B: Read, C: Read, D: Read, E: Read, F: Read, W: Write>(
-    alloc: Global,
-    old: &mut Claim<A, C, E>,
-    new: &mut Claim<B, D, F>,
-    periods: u32,
-    writer: &mut Counted<W>,
-) -> Result<u8, ToolFault>
-    ensures bytes { Splices false (Some periods) A.remaining B.remaining C.remaining D.remaining E.remaining F.remaining old.old new.old
-        (W.contents (inner_of writer.old)) (W.contents (inner_of writer.new)) result }
-    ensures faults { IsFirstFailure (change_devices A.remaining B.remaining C.remaining D.remaining E.remaining F.remaining
-        old.old new.old old.new new.new writer.old writer.new) (failed_at result) }
-    ensures untouched { IsUntouched is_tool_write result writer.old writer.new }
-{
-    match splice_files_sent(
-        alloc,
-        &mut old.cycle,
-        &mut new.cycle,
-        &mut old.service,
-        &mut new.service,
-        &mut old.certificate,
-        &mut new.certificate,
-        periods,
-        writer,
-    ) {
-        Ok(verdict) => Ok(sent_status(verdict)),
-        Err(fault) => Err(ToolFault::Files(fault)),
-    }
-}
-
-// The same also for receivers that show a page only where it ends.
-fn splice_late<A: Read, B: Read, C: Read, D: Read, E: Read, F: Read, W: Write>(
-    alloc: Global,
-    old: &mut Claim<A, C, E>,
-    new: &mut Claim<B, D, F>,
-    sent: Option<u32>,
-    writer: &mut Counted<W>,
-) -> Result<u8, ToolFault>
-    ensures bytes { Splices true sent A.remaining B.remaining C.remaining D.remaining E.remaining F.remaining old.old new.old
-        (W.contents (inner_of writer.old)) (W.contents (inner_of writer.new)) result }
-    ensures faults { IsFirstFailure (change_devices A.remaining B.remaining C.remaining D.remaining E.remaining F.remaining
-        old.old new.old old.new new.new writer.old writer.new) (failed_at result) }
-    ensures untouched { IsUntouched is_tool_write result writer.old writer.new }
-{
-    match splice_files_late(
-        alloc,
-        &mut old.cycle,
-        &mut new.cycle,
-        &mut old.service,
-        &mut new.service,
-        &mut old.certificate,
-        &mut new.certificate,
-        sent,
-        writer,
-    ) {
-        Ok(verdict) => Ok(late_splice_status(verdict)),
+        Ok(verdict) => Ok(verdict.status()),
         Err(fault) => Err(ToolFault::Files(fault)),
     }
 }
@@ -163,8 +113,8 @@ pub fn run<A: Read, B: Read, C: Read, D: Read, E: Read, F: Read, W: Write>(
     ensures untouched { IsUntouched is_tool_write result writer.old writer.new }
 {
     match (splicing.late, splicing.sent) {
-        (true, sent) => splice_late(alloc, old, new, sent, writer),
-        (false, None) => splice(alloc, old, new, writer),
-        (false, Some(periods)) => splice_sent(alloc, old, new, periods, writer),
+        (true, sent) => answer(alloc, &Late(sent), old, new, writer),
+        (false, None) => answer(alloc, &AtAnyTime, old, new, writer),
+        (false, Some(periods)) => answer(alloc, &AfterPeriods(periods), old, new, writer),
     }
 }
