@@ -2,6 +2,7 @@
 --
 --   mosaic_after, is_character    whether mosaics are shown after a code; a code that shows a character
 --   is_other, OtherCode, other_code    a code that shows another character than in ASCII; the first in a row, with its column
+--   is_plain                a code that shows itself under each option, and is part of no box and no escape
 --   is_hex, is_escape, has_escape       an escape of TOML, as characters
 --   is_open                 a box that the row does not end
 use Rattle.std.specs.Prelude.{ℕ, ◌+◌, Bool, true, false, not, ◌&&◌, ◌||◌, ◌==◌, nat_lt, nat_le, if◌then◌else◌, List, [], ◌∷◌, length, slice_index, Option, Some, None}
@@ -31,6 +32,11 @@ other_from option mosaic column (c ∷ row) =
 -- a row begins with characters
 abbrev pub other_code : ℕ → List ℕ → Option OtherCode
 other_code option row = other_from option false 0 row
+
+-- none of the places of a national set, no backslash (5C is such a place), no start box code and not 7F
+abbrev pub is_plain : ℕ → Bool
+is_plain c =
+    not ((c == 11) || (c == 35) || (c == 36) || (c == 64)) && (nat_lt c 91 || (nat_le 97 c && nat_lt c 123))
 
 abbrev pub is_hex : ℕ → Bool
 is_hex c = (nat_le 48 c && nat_lt c 58) || ((nat_le 65 c && nat_lt c 71) || (nat_le 97 c && nat_lt c 103))

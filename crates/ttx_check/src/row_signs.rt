@@ -1,5 +1,6 @@
 //! What in the characters of a row probably looks other than it is written.
 
+ghost use Rattle.std.specs.List.{list_all};
 ghost use Rattle.std.specs.Prelude.{◌≡◌, ◌<◌, ◌≤◌, true, drop, length};
 ghost use Rattle.ttx_check.specs.RowSigns as rule;
 
@@ -36,6 +37,23 @@ fn is_other(option: u8, mosaic: bool, code: u8) -> bool
         return false;
     }
     u32::from(glyph(option, code)) != u32::from(code)
+}
+
+// Whether a code shows itself under each option, and is part of no box and no escape.
+fn is_plain(code: u8) -> bool
+    ensures { result ≡ rule.is_plain code }
+{
+    match code {
+        0x0b | 0x23 | 0x24 | 0x40 => false,
+        _ => code < 0x5b || (0x61 <= code && code < 0x7b),
+    }
+}
+
+/// Whether each code of a row is plain: then nothing in it looks other than it is written.
+pub fn is_plain_row(row: &[u8]) -> bool
+    ensures { result ≡ list_all rule.is_plain row.now }
+{
+    row.iter().all(|code| is_plain(*code))
 }
 
 /// The first code of a row that shows another character than in ASCII: its column, the code and the character.

@@ -7,7 +7,7 @@ ghost use Rattle.ttx_page.specs.Views.{page_of};
 ghost use Rattle.ttx_check.specs.PageWarnings.{has_stray, is_lost, is_unshown, only_if, other_warnings, sign_warnings, place_warnings, row_warnings};
 ghost use Rattle.ttx_check.specs.PageWarnings.{row_warnings_to};
 
-use crate::row_signs::{has_escape, is_open, other_code};
+use crate::row_signs::{has_escape, is_open, is_plain_row, other_code};
 use crate::warning::Warning;
 use std::alloc::AllocError;
 use ttx_header::PageId;
@@ -92,9 +92,9 @@ fn push_other(
     Ok(())
 }
 
-/// Adds the warnings about the characters of the row with this number; 0 is `head`.
+// Adds the warnings about the characters of the row with this number.
 #[tactic(auto, unfolding(crate::specs::PageWarnings::sign_warnings))]
-pub fn push_signs(
+fn push_found_signs(
     found: &mut Vec<Warning>,
     page: &Page,
     number: u8,
@@ -121,6 +121,22 @@ pub fn push_signs(
             row: number,
         },
     )
+}
+
+/// Adds the warnings about the characters of the row with this number; 0 is `head`. Most rows have none, and are read only once.
+#[tactic(auto, using(crate::proofs::PlainRows::nothing_told))]
+pub fn push_signs(
+    found: &mut Vec<Warning>,
+    page: &Page,
+    number: u8,
+    row: &[u8],
+) -> Result<(), AllocError>
+    ensures { OnOk result (found.new.items ≡ found.old.items ++ sign_warnings (page_of page.now) number row.now) }
+{
+    if is_plain_row(row) {
+        return Ok(());
+    }
+    push_found_signs(found, page, number, row)
 }
 
 // Adds the warnings about where a row stands. `hidden` says whether the row above hides it.

@@ -4,8 +4,10 @@
 --   keeps                   a stay keeps the pages of this one's number on the screen for so long
 --   is_short                a page is the first of a number with several pages, and no stay keeps these so long
 --   place_text, short_line  the place of the warning; the line of a number with so many pages
+--   key_of                  a page number as one number
+--   counted_text            the line of a page's number with so many pages, if it has several and no stay keeps these so long
 --   short_lines_to, short_lines     the lines of the numbers of the first n pages, and of all
-use Rattle.std.specs.Prelude.{ℕ, zero, suc, Bool, false, not, ◌&&◌, nat_le, if◌then◌else◌, List, [], ◌∷◌, ◌++◌, codes, length, slice_get}
+use Rattle.std.specs.Prelude.{ℕ, zero, suc, ◌+◌, ◌*◌, Bool, false, not, ◌&&◌, nat_le, if◌then◌else◌, List, [], ◌∷◌, ◌++◌, codes, length, slice_get}
 use Rattle.std.specs.Prelude.{Option, Some, None}
 use Rattle.std.specs.Fmt.{decimal}
 use Rattle.std.specs.List.{list_any}
@@ -36,6 +38,12 @@ unfoldable pub short_line : Id → ℕ → List ℕ
 short_line id count =
     place_text id ++ codes ": its " ++ decimal count
     ++ codes " pages may change before they are read: give one stays = 3.0 or more, and plan --spread" ++ 10 ∷ []
+
+abbrev pub key_of : Page → ℕ
+key_of p = p.id.mag * 256 + p.id.page
+
+abbrev pub counted_text : List Page → List PromiseFields → Page → ℕ → List ℕ
+counted_text pages stays p count = if nat_le 2 count && not (list_any (keeps pages p) stays) then short_line p.id count else []
 
 abbrev pub short_text : List Page → List PromiseFields → ℕ → Option Page → List ℕ
 short_text pages stays n None = []

@@ -1,17 +1,18 @@
 //! Warnings about page numbers whose pages may change before they are read.
 
-ghost use Rattle.std.specs.Prelude.{◌≡◌, ◌++◌, ◌≤◌, not, length, map, Some, OnOk, string_bytes};
+ghost use Rattle.std.specs.Prelude.{◌≡◌, ◌++◌, ◌≤◌, not, length, map, Some, IfOk, OnOk, string_bytes};
 ghost use Rattle.std.specs.List.{list_any};
 ghost use Rattle.ttx_page.specs.Views.{page_of};
 ghost use Rattle.ttx_source.specs.PromiseViews.{promise_view};
 ghost use Rattle.ttx_stays.specs.ShortNumbers as rule;
 
-use std::alloc::AllocError;
+use std::alloc::{AllocError, Global};
 use ttx_digits::push_decimal;
 use ttx_header::PageId;
 use ttx_numbers::{is_first, push_number, share_number, siblings};
 use ttx_page::Page;
 use ttx_source::Promise;
+use ttx_tallies::{take_count, tally};
 
 // Three seconds, in fields: less is too short to read a page.
 const THREE_SECONDS: u32 = 150;
@@ -40,14 +41,6 @@ fn is_unkept(pages: &[Page], stays: &[Promise], page: &Page) -> bool
     !is_kept(pages, stays, page)
 }
 
-// Whether the page at an index is the first of a number with several pages that may change too soon.
-fn is_short(pages: &[Page], stays: &[Promise], index: usize, page: &Page) -> bool
-    requires { index ≤ length pages.now }
-    ensures { result ≡ rule.is_short (map page_of pages.now) (map promise_view stays.now) index (page_of page.now) }
-{
-    is_first(pages, index, page) && siblings(pages, page) >= 2 && is_unkept(pages, stays, page)
-}
-
 // Adds the place of the warning.
 #[tactic(auto, unfolding(crate::specs::ShortNumbers::place_text))]
 fn push_place(text: &mut String, id: PageId) -> Result<(), AllocError>
@@ -70,6 +63,24 @@ fn push_line(text: &mut String, id: PageId, count: usize) -> Result<(), AllocErr
     )
 }
 
+// Adds the line of a page's number, which has so many pages, if it has several and none of them is kept.
+fn push_counted(
+    text: &mut String,
+    pages: &[Page],
+    stays: &[Promise],
+    page: &Page,
+    count: usize,
+) -> Result<(), AllocError>
+    ensures { OnOk result (string_bytes text.new ≡ string_bytes text.old
+        ++ rule.counted_text (map page_of pages.now) (map promise_view stays.now) (page_of page.now) count) }
+{
+    if count >= 2 && is_unkept(pages, stays, page) {
+        push_line(text, page.id(), count)
+    } else {
+        Ok(())
+    }
+}
+
 /// Adds the line of the number of the page at an index, if there is one.
 pub fn push_short(
     text: &mut String,
@@ -82,14 +93,34 @@ pub fn push_short(
     ensures { OnOk result (string_bytes text.new ≡ string_bytes text.old
         ++ rule.short_text (map page_of pages.now) (map promise_view stays.now) index (Some (page_of page.now))) }
 {
-    if is_short(pages, stays, index, page) {
-        push_line(text, page.id(), siblings(pages, page))
+    if is_first(pages, index, page) {
+        push_counted(text, pages, stays, page, siblings(pages, page))
     } else {
         Ok(())
     }
 }
 
-/// Adds a line for each page number with several pages, none of which has a stay of three seconds or more.
+// A page number as one number.
+fn key_of(page: &Page) -> usize
+    ensures { result ≡ rule.key_of (page_of page.now) }
+{
+    let id = page.id();
+    usize::from(id.mag()) * 256 + usize::from(id.page())
+}
+
+// The numbers of pages.
+fn keys_of(alloc: Global, pages: &[Page]) -> Result<Vec<usize>, AllocError>
+    ensures { IfOk result (λ keys. keys.items ≡ map rule.key_of (map page_of pages.now)) }
+{
+    let mut keys = Vec::new(alloc);
+    for page in pages {
+        keys.push(key_of(page))?;
+    }
+    Ok(keys)
+}
+
+/// Adds a line for each page number with several pages, none of which has a stay of three seconds or more. A number is counted once,
+/// and its count taken at its first page.
 pub(crate) fn push_short_numbers(
     text: &mut String,
     pages: &[Page],
@@ -98,8 +129,11 @@ pub(crate) fn push_short_numbers(
     ensures { OnOk result (string_bytes text.new ≡ string_bytes text.old
         ++ rule.short_lines (map page_of pages.now) (map promise_view stays.now)) }
 {
-    for index in 0..pages.len() {
-        push_short(text, pages, stays, index, &pages[index])?;
+    let alloc = *text.allocator();
+    let mut counts = tally(alloc, &keys_of(alloc, pages)?)?;
+    for page in pages {
+        let count = take_count(&mut counts, key_of(page));
+        push_counted(text, pages, stays, page, count)?;
     }
     Ok(())
 }

@@ -1,20 +1,32 @@
-use Rattle.std.proofs.Common.{◌≡◌, ◌+◌, suc, ◌++◌, map, string_bytes, Some, ap, sym, ◌∙◌, subst, arith, append_assoc}
+use Rattle.std.proofs.Common.{◌≡◌, ◌+◌, suc, ◌++◌, map, string_bytes, Some, ap, sym, ◌∙◌, subst, arith, append_assoc, append-nil}
+use Rattle.std.specs.Prelude.{◌==◌, if◌then◌else◌}
 use Rattle.ttx_page.specs.Views.{page_of}
 use Rattle.ttx_source.specs.PromiseViews.{promise_view}
-use Rattle.ttx_stays.specs.ShortNumbers.{short_lines_to, short_text}
+use Rattle.ttx_tallies.specs.Tallies.{times_in}
+use Rattle.ttx_stays.specs.ShortNumbers.{key_of, counted_text, short_lines_to, short_text}
 use Rattle.ttx_numbers.proofs.NumberedPages.{value_there}
+use Rattle.ttx_stays.proofs.CountedNumbers.{still_counted, counted_is_short, counted_less}
 use Rattle.ttx_stays.proofs.short_numbers.push_short_numbers.Goals as goal
 
-pub loop-index-preserved : goal.loop-index-preserved
-loop-index-preserved c =
-    let i = c.loop-index.index in
-    let pages = map page_of c.args.pages.now in
+pub loop-page-preserved : goal.loop-page-preserved
+loop-page-preserved c =
+    let i = c.loop-page.page-index in
+    let all = c.args.pages.now in
+    let pages = map page_of all in
     let stays = map promise_view c.args.stays.now in
-    let page = c.index-pages-index.result in
+    let page = c.page-item.result in
     let before = string_bytes c.args.text.now in
-    let here = value_there c.args.pages.now i page c.loop-index-test.true c.index-pages-index.is in
+    let key = c.key_of.ensures in
+    let here = value_there all i page c.loop-page-test.true c.page-item.is in
     let next : i + 1 ≡ suc i = omega arith in
-    subst (λ n. string_bytes c.push_short.new.text ≡ before ++ short_lines_to pages stays n) (sym next)
-    (c.in_ok-push_short.ensures ∙ ap (λ t. t ++ short_text pages stays i (Some (page_of page))) c.loop-index.invariant
-    ∙ append_assoc before (short_lines_to pages stays i) (short_text pages stays i (Some (page_of page)))
-    ∙ ap (λ o. before ++ (short_lines_to pages stays i ++ short_text pages stays i o)) (sym here))
+    let count = c.take_count-count.ensures.count ∙ c.loop-page.invariant.counts c.key_of.result ∙ ap (still_counted all i) key in
+    let line = ap (counted_text pages stays (page_of page)) count ∙ counted_is_short all stays i page in
+    record {
+      text = subst (λ n. string_bytes c.push_counted.new.text ≡ before ++ short_lines_to pages stays n) (sym next)
+          (c.in_ok-push_counted.ensures ∙ ap (λ t. t ++ counted_text pages stays (page_of page) c.take_count-count.result) c.loop-page.invariant.text
+          ∙ append_assoc before (short_lines_to pages stays i) _
+          ∙ ap (λ t. before ++ (short_lines_to pages stays i ++ t)) (line ∙ ap (short_text pages stays i) (sym here)));
+      counts = λ n. c.take_count-count.ensures.rest n ∙ ap (λ k. if k == n then 0 else times_in c.loop-page.counts n) key
+          ∙ ap (λ t. if key_of (page_of page) == n then 0 else t) (c.loop-page.invariant.counts n)
+          ∙ counted_less all i n page c.loop-page-test.true c.page-item.is;
+    }
