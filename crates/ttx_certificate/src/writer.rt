@@ -1,6 +1,7 @@
 //! Writing certificates.
 
 ghost use Rattle.std.specs.Prelude.{◌≡◌, ◌∷◌, ◌++◌, [], OnOk, IfOk, string_bytes};
+ghost use Rattle.ttx_digits.specs.PageIds.{id_text};
 ghost use Rattle.ttx_certificate.specs.CertificateTexts.{item_text, starts_text, entry_text};
 ghost use Rattle.ttx_certificate.specs.CertificateTexts.{entries_text, class_text, head_text, certificate_text};
 ghost use Rattle.ttx_certificate.specs.EntryViews.{entry_of, entries_of};
@@ -11,7 +12,16 @@ use crate::entries::Entry;
 use crate::no_memory::NoMemory;
 use std::alloc::{AllocError, Global};
 use ttx_digits::{push_decimal, push_id};
+use ttx_header::PageId;
 use ttx_page::{Class, Item};
+
+// The id of a page and its text, made once for the entries of a page, which follow one another.
+#[derive(Drop)]
+struct PageText {
+    page: PageId,
+    text: String,
+    ghost is: { string_bytes text ≡ id_text page },
+}
 
 /// Adds an item, after a space.
 pub fn push_item(text: &mut String, item: Item) -> Result<(), AllocError>
@@ -38,22 +48,47 @@ fn push_starts(text: &mut String, starts: &[u32]) -> Result<(), AllocError>
     Ok(())
 }
 
-// Adds the line of an entry.
-fn push_entry(text: &mut String, entry: &Entry) -> Result<(), AllocError>
+// The text of a page's id.
+fn page_text(alloc: Global, page: PageId) -> Result<PageText, AllocError>
+    ensures { IfOk result (λ words. words.page ≡ page) }
+{
+    let mut text = String::new(alloc);
+    push_id(&mut text, page)?;
+    Ok(PageText { page, text })
+}
+
+// The text of a page's id: `last`, if that is the page's.
+fn next_text(alloc: Global, last: PageText, page: PageId) -> Result<PageText, AllocError>
+    ensures { IfOk result (λ words. words.page ≡ page) }
+{
+    if last.page == page {
+        return Ok(last);
+    }
+    page_text(alloc, page)
+}
+
+// Adds the line of an entry, whose page has this text.
+fn push_entry(text: &mut String, page: &str, entry: &Entry) -> Result<(), AllocError>
+    requires { page.now ≡ id_text (entry_of entry.now).page }
     ensures { OnOk result (string_bytes text.new ≡ string_bytes text.old ++ entry_text (entry_of entry.now) ++ 10 ∷ []) }
 {
-    push_id(text, entry.page())?;
+    text.push_str(page)?;
     push_item(text, entry.item())?;
     push_starts(text, entry.starts())?;
     text.push('\n')
 }
 
 // Adds the lines of entries.
-fn push_entries(text: &mut String, entries: &[Entry]) -> Result<(), AllocError>
+fn push_entries(alloc: Global, text: &mut String, entries: &[Entry]) -> Result<(), AllocError>
     ensures { OnOk result (string_bytes text.new ≡ string_bytes text.old ++ entries_text (entries_of entries.now)) }
 {
+    let Some(first) = entries.first() else {
+        return Ok(());
+    };
+    let mut page = page_text(alloc, first.page())?;
     for entry in entries {
-        push_entry(text, entry)?;
+        page = next_text(alloc, page, entry.page())?;
+        push_entry(text, page.text.as_str(), entry)?;
     }
     Ok(())
 }
@@ -87,7 +122,7 @@ fn text_of(alloc: Global, certificate: &Certificate) -> Result<String, AllocErro
 {
     let mut text = String::new(alloc);
     push_head(&mut text, certificate)?;
-    push_entries(&mut text, certificate.entries())?;
+    push_entries(alloc, &mut text, certificate.entries())?;
     Ok(text)
 }
 

@@ -78,8 +78,18 @@ fn name_pages(
     Ok(least)
 }
 
+// Sorts the entries by magazine, and keeps those of a magazine in their order.
+fn sort_magazines(entries: &mut Vec<Entry>) -> Result<(), NoMemory>
+    ensures { IsPermutation entries.old.items entries.new.items }
+{
+    match entries.sort_by_cached_key(|entry| entry.page().mag()) {
+        Ok(()) => Ok(()),
+        Err(_) => Err(NoMemory),
+    }
+}
+
 // Sorts the entries into the order of certificates. The order is strict if no two entries are of the same item.
-fn sort_entries(entries: &mut Vec<Entry>) -> Result<(), NoMemory>
+fn sort_places(entries: &mut Vec<Entry>) -> Result<(), NoMemory>
     requires apart { AllPairs (λ a b. same_place a b ≡ false) entries.old.items }
     ensures same { IsPermutation entries.old.items entries.new.items }
     ensures rising { OnOk result (rises (entry_places (entries_of entries.new.items)) ≡ true) }
@@ -88,6 +98,17 @@ fn sort_entries(entries: &mut Vec<Entry>) -> Result<(), NoMemory>
         Ok(()) => Ok(()),
         Err(_) => Err(NoMemory),
     }
+}
+
+// The same. Pages are mostly listed by number, magazine by magazine or one of each in turn: by magazine they are in order already, and
+// sorting what is in order is one pass.
+fn sort_entries(entries: &mut Vec<Entry>) -> Result<(), NoMemory>
+    requires apart { AllPairs (λ a b. same_place a b ≡ false) entries.old.items }
+    ensures same { IsPermutation entries.old.items entries.new.items }
+    ensures rising { OnOk result (rises (entry_places (entries_of entries.new.items)) ≡ true) }
+{
+    sort_magazines(entries)?;
+    sort_places(entries)
 }
 
 // The deadline in fields, if all is sent unchanged and some limit is enough.

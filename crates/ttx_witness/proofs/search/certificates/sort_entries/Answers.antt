@@ -1,11 +1,12 @@
-use Rattle.std.proofs.Common.{rules}
-use Rattle.std.proofs.lemmas.List.Sorted.{IsNonDecreasingBy-from_sort_by_key}
-use Rattle.ttx_certificate.specs.EntryViews.{place_in}
-use Rattle.ttx_witness.proofs.lemmas.search.LeastDeadline.{pairs_sorted, places_rise}
+use Rattle.std.proofs.lemmas.List.Sorted.{IsPermutation-trans}
+use Rattle.ttx_witness.proofs.lemmas.search.LeastDeadline.{pairs_sorted}
 use Rattle.ttx_witness.proofs.search.certificates.sort_entries.Goals as goal
 
-pub returns-in-Ok-clause-rising : goal.returns-in-Ok-clause-rising
-returns-in-Ok-clause-rising c =
-    let sorted = c.sort_by_cached_key.new.self.items in
-    places_rise sorted (IsNonDecreasingBy-from_sort_by_key place_in sorted c.in-Ok.ensures.sorted (λ a r k called. search rules))
-    (pairs_sorted c.args.entries.now.items sorted c.sort_by_cached_key.ensures.permutation c.requires.apart)
+pub sort_places-requires : goal.sort_places-requires
+sort_places-requires c = record {
+  apart = pairs_sorted c.args.entries.now.items c.sort_magazines.new.entries.items c.sort_magazines.ensures c.requires.apart;
+}
+
+pub returns-clause-same : goal.returns-clause-same
+returns-clause-same c = IsPermutation-trans c.args.entries.now.items c.sort_magazines.new.entries.items c.sort_places.new.entries.items
+    c.sort_magazines.ensures c.sort_places.ensures.same
