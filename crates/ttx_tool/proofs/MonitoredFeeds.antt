@@ -1,6 +1,7 @@
 -- What is told of a feed once the three files are read.
 use Rattle.std.proofs.Common.{◌≡◌, ◌∙◌, refl, [], ◌⊎◌, ℕ, zero, suc, ◌-◌, ◌^◌, ◌<◌, ◌≤◌, Bool, true, false, List, length, Option, Some, None, Result, Ok, Err, ◌++◌, append_assoc, sym, subst, inl, inr, arith}
 use Rattle.std.specs.Prelude.{IfSome}
+use Rattle.std.proofs.lemmas.Option.{IfSome_then}
 use Rattle.std.specs.Io.KnownBytes.{Appends}
 use Rattle.ttx_cycle.specs.Cycles.{slots_of}
 use Rattle.ttx_cycle.specs.Files.{IsPacketFile}
@@ -8,13 +9,12 @@ use Rattle.ttx_certificate.specs.Certificates.{fields_of}
 use Rattle.ttx_certificate.specs.Entries.{CertificateFields, certificate_at}
 use Rattle.ttx_files.specs.Inputs.{ReadsInputs}
 use Rattle.ttx_files.specs.Texts.{IsServiceText, IsCertificateText}
-use Rattle.ttx_files.specs.declared.faults.FilesFault.TheVariants.{Cycle, Service, Certificate, Read, TooLong, Write, NoMemory}
+use Rattle.ttx_files.specs.declared.faults.FeedFault.TheVariants as feed
 use Rattle.ttx_files.specs.declared.readers.Inputs.{Inputs}
 use Rattle.ttx_files.specs.declared.told.Told.{Told}
 use Rattle.ttx_page.specs.Pages.{Page}
 use Rattle.ttx_source.specs.Services.{ServiceFields, pages_of}
-use Rattle.ttx_certificate.specs.Certificates.{certificate_of}
-use Rattle.ttx_monitor.specs.FeedVerdicts.{IsFeedVerdict}
+use Rattle.ttx_monitor.specs.FeedVerdicts.{IsFeedVerdict, IsHeardWhole}
 use Rattle.ttx_monitor.specs.FeedReports.{telling_for, ReportsFeed}
 use Rattle.ttx_monitor.specs.Wordings.{sum_text}
 use Rattle.ttx_monitor.specs.declared.verdict.FeedVerdict.{FeedVerdict}
@@ -23,16 +23,26 @@ use Rattle.ttx_row_monitor.specs.RowVerdicts.{IsRowVerdict}
 use Rattle.ttx_row_monitor.specs.declared.verdict.RowVerdict.{RowVerdict}
 use Rattle.ttx_row_monitor.specs.declared.verdict.RowVerdict.TheVariants as row
 use Rattle.ttx_monitor.specs.declared.asked.Asked.{Asked}
-use Rattle.ttx_tool.specs.MonitorReports.{report_status, report_words, IsReportedAs, MonitorsLines, MeansReported}
-use Rattle.ttx_tool.specs.Monitor.{feed_status, row_status, feed_said, row_said, IsTelling, TellsFeed, IsFaultOfFeed, MonitorsText, Monitors, MeansReceived}
+use Rattle.ttx_tool.specs.MonitorReports.{report_status, report_words, MonitorsLines, MeansReported}
+use Rattle.ttx_tool.specs.Monitor.{feed_status, row_status, feed_said, row_said, IsTelling, TellsFeed, IsFaultOfFeed, IsNotMonitored, MonitorsText, Monitors, IsWellReceived, MeansReceived}
 use Rattle.ttx_tool.specs.declared.faults.ToolFault.{ToolFault}
-use Rattle.ttx_tool.specs.declared.faults.ToolFault.TheVariants.{Files, Plan, Class, Same, Counter, Feed}
+
+-- the three files and the feed, where their bytes are known
+pub if_all : {P Q : List ℕ → List ℕ → List ℕ → List ℕ → Type 0} (a b c d : Option (List ℕ)) →
+    IfSome a (λ x. IfSome b (λ y. IfSome c (λ z. IfSome d (P x y z)))) → ((x y z u : List ℕ) → P x y z u → Q x y z u) →
+    IfSome a (λ x. IfSome b (λ y. IfSome c (λ z. IfSome d (Q x y z))))
+if_all a b c d h f = IfSome_then a h (λ x h. IfSome_then b h (λ y h. IfSome_then c h (λ z h. IfSome_then d h (f x y z))))
+
+pub if_read : {P : List ℕ → List ℕ → List ℕ → Type 0} {Q : List ℕ → Type 0} {R : List ℕ → List ℕ → List ℕ → List ℕ → Type 0}
+    (a b c d : Option (List ℕ)) → IfSome a (λ x. IfSome b (λ y. IfSome c (P x y))) → IfSome d Q →
+    ((x y z u : List ℕ) → P x y z → Q u → R x y z u) → IfSome a (λ x. IfSome b (λ y. IfSome c (λ z. IfSome d (R x y z))))
+if_read a b c d h q f = IfSome_then a h (λ x h. IfSome_then b h (λ y h. IfSome_then c h (λ z h. IfSome_then d q (λ u. f x y z u h))))
 
 module _ (inputs : Inputs) (json by_rows : Bool) (named : Option ℕ) where
-  told_of : (a b c d : List ℕ) (result : Result (Told ℕ) ToolFault) → ReadsInputs a b c (Ok inputs) →
-      TellsFeed (IsTelling json by_rows (slots_of inputs.cycle) inputs.service (fields_of inputs.certificate) named d) result → IsFaultOfFeed result →
+  pub told_of : (result : Result (Told ℕ) ToolFault) → IsFaultOfFeed result → (a b c d : List ℕ) → ReadsInputs a b c (Ok inputs) →
+      TellsFeed (IsTelling json by_rows (slots_of inputs.cycle) inputs.service (fields_of inputs.certificate) named d) result →
       MonitorsText json by_rows a b c named d result
-  told_of a b c d (Ok told) read is own = record {
+  told_of (Ok told) own a b c d read is = record {
     slots = slots_of inputs.cycle;
     service = inputs.service;
     w = fields_of inputs.certificate;
@@ -41,33 +51,32 @@ module _ (inputs : Inputs) (json by_rows : Bool) (named : Option ℕ) where
     certificate_is = read.2;
     told = is;
   }
-  told_of a b c d (Err Feed) read is own = (slots_of inputs.cycle, inputs.service, fields_of inputs.certificate, read.0, read.1, read.2)
-  told_of a b c d (Err (Files NoMemory)) read is own = tt
-  told_of a b c d (Err (Files (Cycle f))) read is own = absurd own
-  told_of a b c d (Err (Files (Service f))) read is own = absurd own
-  told_of a b c d (Err (Files (Certificate f))) read is own = absurd own
-  told_of a b c d (Err (Files (Read which))) read is own = absurd own
-  told_of a b c d (Err (Files (TooLong which))) read is own = absurd own
-  told_of a b c d (Err (Files (Write written))) read is own = absurd own
-  told_of a b c d (Err (Plan f)) read is own = absurd own
-  told_of a b c d (Err Class) read is own = absurd own
-  told_of a b c d (Err Same) read is own = absurd own
-  told_of a b c d (Err (Counter f)) read is own = absurd own
-
-  pub monitored_of : (result : Result (Told ℕ) ToolFault) (a b c d : Option (List ℕ)) →
-      IfSome a (λ x. IfSome b (λ y. IfSome c (λ z. ReadsInputs x y z (Ok inputs)))) →
-      IfSome d (λ u. TellsFeed (IsTelling json by_rows (slots_of inputs.cycle) inputs.service (fields_of inputs.certificate) named u) result) → IsFaultOfFeed result →
-      IfSome a (λ x. IfSome b (λ y. IfSome c (λ z. IfSome d (λ u. MonitorsText json by_rows x y z named u result))))
-  monitored_of result (Some a) (Some b) (Some c) (Some d) read is own = told_of a b c d result read is own
-  monitored_of result (Some a) (Some b) (Some c) None read is own = tt
-  monitored_of result (Some a) (Some b) None d read is own = tt
-  monitored_of result (Some a) None c d read is own = tt
-  monitored_of result None b c d read is own = tt
+  told_of (Err fault) (feed.Read, own) a b c d read is =
+      subst (IsNotMonitored a b c) (sym own) (slots_of inputs.cycle, inputs.service, fields_of inputs.certificate, read.0, read.1, read.2)
+  told_of (Err fault) (feed.NoMemory, own) a b c d read is = subst (IsNotMonitored a b c) (sym own) tt
 
 ended_so : (rest : ℕ) (tail : List ℕ) (feed : List (List ℕ)) → ((rest < 42) × (length tail ≡ rest)) ⊎ (2 ^ 64 - 1 ≤ length feed) →
     (length tail < 42) ⊎ (2 ^ 64 - 1 ≤ length feed)
 ended_so rest tail feed (inl e) = inl (let few = e.0 in let is = e.1 in omega arith)
 ended_so rest tail feed (inr long) = inr long
+
+heard_whole : (a b c d : List ℕ) (slots : List (List ℕ)) (service : ServiceFields) (w : CertificateFields) → IsPacketFile a slots → IsServiceText b service →
+    IsCertificateText c w → (start count wrong streak rest : ℕ) →
+    IsHeardWhole slots (pages_of service) (certificate_at w) d start count wrong streak rest → IsWellReceived a b c d start
+heard_whole a b c d slots service w cycle_is service_is certificate_is start count wrong streak rest h = record {
+  slots = slots;
+  service = service;
+  w = w;
+  cycle_is = cycle_is;
+  service_is = service_is;
+  certificate_is = certificate_is;
+  received = h.feed;
+  rest = h.tail;
+  same = h.same;
+  all = ended_so rest h.tail h.feed h.ended;
+  within = h.within.pages;
+  seen = h.seen;
+}
 
 -- the words of a yes are those for no pages
 feed_yes : (json : Bool) (pages : List Page) (start slots wrong streak rest : ℕ) →
@@ -89,29 +98,15 @@ module _ (json : Bool) (a b c : List ℕ) (named : Option ℕ) (d : List ℕ) (o
   bytes_mean (Unlike unlike) exact said is = absurd (omega arith)
   bytes_mean (No start slot breach) exact said is = absurd (omega arith)
   bytes_mean (Shifted start slot by count) exact said is = absurd (omega arith)
-  bytes_mean (Yes start count wrong streak rest) exact said is =
-      let h = exact.2 in (
-        start,
-        count,
-        wrong,
-        streak,
-        rest,
-        subst (Appends old new) (said ∙ feed_yes json (pages_of service) start count wrong streak rest) out,
-        record {
-          slots = slots;
-          service = service;
-          w = w;
-          cycle_is = cycle_is;
-          service_is = service_is;
-          certificate_is = certificate_is;
-          received = h.feed;
-          rest = h.tail;
-          same = h.same;
-          all = ended_so rest h.tail h.feed h.ended;
-          within = h.within.pages;
-          seen = h.seen;
-        },
-      )
+  bytes_mean (Yes start count wrong streak rest) exact said is = (
+    start,
+    count,
+    wrong,
+    streak,
+    rest,
+    subst (Appends old new) (said ∙ feed_yes json (pages_of service) start count wrong streak rest) out,
+    heard_whole a b c d slots service w cycle_is service_is certificate_is start count wrong streak rest exact.2,
+  )
 
   rows_mean : (verdict : RowVerdict) → IsRowVerdict slots (pages_of service) (certificate_at w) named d verdict →
       text ≡ row_said json (pages_of service) verdict → zero ≡ row_status verdict → MeansReceived json true a b c d old new (Ok zero)
@@ -142,41 +137,16 @@ module _ (json : Bool) (a b c : List ℕ) (named : Option ℕ) (d : List ℕ) (o
         },
       )
 
-pub means : (json by_rows : Bool) (a b c : List ℕ) (named : Option ℕ) (d : List ℕ) (old new : Option (List ℕ)) (result : Result ℕ ToolFault) →
+pub means : (json by_rows : Bool) (named : Option ℕ) (old new : Option (List ℕ)) (result : Result ℕ ToolFault) (a b c d : List ℕ) →
     Monitors json by_rows a b c named d old new result → MeansReceived json by_rows a b c d old new result
-means false false a b c named d old new (Ok zero) m =
-    let i = m.1 in
-    bytes_mean false a b c named d old new i.slots i.service i.w i.cycle_is i.service_is i.certificate_is m.0 m.2 i.told.0 i.told.1.exact
-    i.told.1.text_is i.told.2
-means false true a b c named d old new (Ok zero) m =
-    let i = m.1 in
-    rows_mean false a b c named d old new i.slots i.service i.w i.cycle_is i.service_is i.certificate_is m.0 m.2 i.told.0 i.told.1.exact
-    i.told.1.text_is i.told.2
-means true false a b c named d old new (Ok zero) m =
-    let i = m.1 in
-    bytes_mean true a b c named d old new i.slots i.service i.w i.cycle_is i.service_is i.certificate_is m.0 m.2 i.told.0 i.told.1.exact
-    i.told.1.text_is i.told.2
-means true true a b c named d old new (Ok zero) m =
-    let i = m.1 in
-    rows_mean true a b c named d old new i.slots i.service i.w i.cycle_is i.service_is i.certificate_is m.0 m.2 i.told.0 i.told.1.exact
-    i.told.1.text_is i.told.2
-means false false a b c named d old new (Ok (suc n)) m = tt
-means false false a b c named d old new (Err fault) m = tt
-means false true a b c named d old new (Ok (suc n)) m = tt
-means false true a b c named d old new (Err fault) m = tt
-means true false a b c named d old new (Ok (suc n)) m = tt
-means true false a b c named d old new (Err fault) m = tt
-means true true a b c named d old new (Ok (suc n)) m = tt
-means true true a b c named d old new (Err fault) m = tt
-
-pub means_if : (json by_rows : Bool) (named : Option ℕ) (old new : Option (List ℕ)) (result : Result ℕ ToolFault) (a b c d : Option (List ℕ)) →
-    IfSome a (λ x. IfSome b (λ y. IfSome c (λ z. IfSome d (λ u. Monitors json by_rows x y z named u old new result)))) →
-    IfSome a (λ x. IfSome b (λ y. IfSome c (λ z. IfSome d (λ u. MeansReceived json by_rows x y z u old new result))))
-means_if json by_rows named old new result (Some a) (Some b) (Some c) (Some d) m = means json by_rows a b c named d old new result m
-means_if json by_rows named old new result (Some a) (Some b) (Some c) None m = tt
-means_if json by_rows named old new result (Some a) (Some b) None d m = tt
-means_if json by_rows named old new result (Some a) None c d m = tt
-means_if json by_rows named old new result None b c d m = tt
+means json false named old new (Ok zero) a b c d (text, i, out) =
+    bytes_mean json a b c named d old new i.slots i.service i.w i.cycle_is i.service_is i.certificate_is text out i.told.0 i.told.1 i.told.2 i.told.3
+means json true named old new (Ok zero) a b c d (text, i, out) =
+    rows_mean json a b c named d old new i.slots i.service i.w i.cycle_is i.service_is i.certificate_is text out i.told.0 i.told.1 i.told.2 i.told.3
+means json false named old new (Ok (suc n)) a b c d m = tt
+means json false named old new (Err fault) a b c d m = tt
+means json true named old new (Ok (suc n)) a b c d m = tt
+means json true named old new (Err fault) a b c d m = tt
 
 -- the words of a yes in a report
 report_yes : (json : Bool) (pages : List Page) (start slots wrong streak rest : ℕ) →
@@ -201,8 +171,7 @@ reports_mean json a b c d asked old new slots service w cycle_is service_is cert
     unlike e = cc
 reports_mean json a b c d asked old new slots service w cycle_is service_is certificate_is (Some (Yes start count wrong streak rest)) is (inr (inr r)) =
     let g = telling_for (report_words json) slots (pages_of service) (certificate_at w) asked r.0 in
-    let e = r.3 in
-    let h = e.3.said.1 in (
+    let e = r.3 in (
       e.0,
       sum_text g e.1,
       start,
@@ -213,45 +182,12 @@ reports_mean json a b c d asked old new slots service w cycle_is service_is cert
       subst (λ said. Appends old new (e.0 ++ said ++ sum_text g e.1)) (report_yes json (pages_of service) start count wrong streak rest)
           (subst (Appends old new)
           (sym (append_assoc e.0 ((report_words json).verdict (pages_of service) (Yes start count wrong streak rest)) (sum_text g e.1))) e.4),
-      record {
-        slots = slots;
-        service = service;
-        w = w;
-        cycle_is = cycle_is;
-        service_is = service_is;
-        certificate_is = certificate_is;
-        received = h.feed;
-        rest = h.tail;
-        same = h.same;
-        all = ended_so rest h.tail h.feed h.ended;
-        within = h.within.pages;
-        seen = h.seen;
-      },
+      heard_whole a b c d slots service w cycle_is service_is certificate_is start count wrong streak rest e.3.said.1,
     )
 
-pub report_means : (json : Bool) (a b c d : List ℕ) (asked : Asked) (old new : Option (List ℕ)) (result : Result ℕ ToolFault) →
+pub report_means : (json : Bool) (asked : Asked) (old new : Option (List ℕ)) (result : Result ℕ ToolFault) (a b c d : List ℕ) →
     MonitorsLines json a b c asked d old new result → MeansReported json a b c d old new result
-report_means json a b c d asked old new (Ok zero) (inl refused) = absurd refused.0
-report_means json a b c d asked old new (Ok zero) (inr m) = reports_mean json a b c d asked old new m.0 m.1 m.2 m.3 m.4 m.5 m.6.0 m.6.1 m.6.2
-report_means json a b c d asked old new (Ok (suc n)) m = tt
-report_means json a b c d asked old new (Err fault) m = tt
-
-pub report_means_if : (json : Bool) (asked : Asked) (old new : Option (List ℕ)) (result : Result ℕ ToolFault) (a b c d : Option (List ℕ)) →
-    IfSome a (λ x. IfSome b (λ y. IfSome c (λ z. IfSome d (λ u. MonitorsLines json x y z asked u old new result)))) →
-    IfSome a (λ x. IfSome b (λ y. IfSome c (λ z. IfSome d (λ u. MeansReported json x y z u old new result))))
-report_means_if json asked old new result (Some a) (Some b) (Some c) (Some d) m = report_means json a b c d asked old new result m
-report_means_if json asked old new result (Some a) (Some b) (Some c) None m = tt
-report_means_if json asked old new result (Some a) (Some b) None d m = tt
-report_means_if json asked old new result (Some a) None c d m = tt
-report_means_if json asked old new result None b c d m = tt
-
-module _ (inputs : Inputs) (json : Bool) (asked : Asked) (old new : Option (List ℕ)) (result : Result ℕ ToolFault) where
-  pub lines_of : (a b c d : Option (List ℕ)) → IfSome a (λ x. IfSome b (λ y. IfSome c (λ z. ReadsInputs x y z (Ok inputs)))) →
-      IfSome d (λ u. IsReportedAs (ReportsFeed (report_words json) (slots_of inputs.cycle) (pages_of inputs.service) (certificate_of inputs.certificate) asked u old new) result) →
-      IfSome a (λ x. IfSome b (λ y. IfSome c (λ z. IfSome d (λ u. MonitorsLines json x y z asked u old new result))))
-  lines_of (Some a) (Some b) (Some c) (Some d) read is =
-      inr (slots_of inputs.cycle, inputs.service, fields_of inputs.certificate, read.0, read.1, read.2, is)
-  lines_of (Some a) (Some b) (Some c) None read is = tt
-  lines_of (Some a) (Some b) None d read is = tt
-  lines_of (Some a) None c d read is = tt
-  lines_of None b c d read is = tt
+report_means json asked old new (Ok zero) a b c d (inl refused) = absurd refused.0
+report_means json asked old new (Ok zero) a b c d (inr m) = reports_mean json a b c d asked old new m.0 m.1 m.2 m.3 m.4 m.5 m.6.0 m.6.1 m.6.2
+report_means json asked old new (Ok (suc n)) a b c d m = tt
+report_means json asked old new (Err fault) a b c d m = tt

@@ -15,22 +15,26 @@ use Rattle.ttx_certificate.specs.Entries.{CertificateFields, certificate_at}
 use Rattle.ttx_cycle.specs.Files.{IsPacketFile, file_of}
 use Rattle.ttx_files.specs.Inputs.{IsRefused}
 use Rattle.ttx_files.specs.Texts.{IsServiceText, IsCertificateText}
-use Rattle.ttx_files.specs.declared.faults.FilesFault.TheVariants.{Write, NoMemory}
+use Rattle.ttx_files.specs.declared.faults.FeedFault.{FeedFault}
+use Rattle.ttx_files.specs.declared.faults.FilesFault.TheVariants.{Write}
 use Rattle.ttx_files.specs.declared.told.Told.{Told}
-use Rattle.ttx_feed_records.specs.FeedRecords.{feed_record, IsFeedRecorded}
-use Rattle.ttx_feed_records.specs.RowRecords.{row_record, IsRowRecorded}
-use Rattle.ttx_monitor.specs.FeedLines.{feed_text, IsFeedTold}
+use Rattle.ttx_feed_records.specs.FeedRecords.{feed_record}
+use Rattle.ttx_feed_records.specs.RowRecords.{row_record}
+use Rattle.ttx_monitor.specs.FeedLines.{feed_text}
+use Rattle.ttx_monitor.specs.FeedVerdicts.{IsFeedVerdict}
 use Rattle.ttx_monitor.specs.Laws.{IsSeenIn}
 use Rattle.ttx_monitor.specs.Watching.{watched, AllReceived}
 use Rattle.ttx_monitor.specs.declared.verdict.FeedVerdict.{FeedVerdict}
 use Rattle.ttx_monitor.specs.declared.verdict.FeedVerdict.TheVariants.{Unlike, Yes, No, Shifted}
 use Rattle.ttx_row_monitor.specs.Laws.{AllReceivedByRows, IsSeenByRowsIn, IsShownByRowsIn}
-use Rattle.ttx_row_monitor.specs.RowLines.{row_verdict_text, IsRowTold}
+use Rattle.ttx_row_monitor.specs.RowLines.{row_verdict_text}
+use Rattle.ttx_row_monitor.specs.RowVerdicts.{IsRowVerdict}
 use Rattle.ttx_row_monitor.specs.declared.verdict.RowVerdict.{RowVerdict}
 use Rattle.ttx_row_monitor.specs.declared.verdict.RowVerdict.TheVariants as row
 use Rattle.ttx_page.specs.Pages.{Page}
 use Rattle.ttx_source.specs.Services.{ServiceFields, pages_of}
 use Rattle.ttx_witness.specs.Coverage.{Accepts, limit}
+use Rattle.ttx_tool.specs.Answers.{of_feed}
 use Rattle.ttx_tool.specs.declared.faults.ToolFault.{ToolFault}
 use Rattle.ttx_tool.specs.declared.faults.ToolFault.TheVariants.{Files, Feed}
 
@@ -56,14 +60,12 @@ row_said true = row_record
 
 -- the words of the verdict on a feed, and its status
 abbrev pub IsTelling : (json by_rows : Bool) → List (List ℕ) → ServiceFields → CertificateFields → Option ℕ → List ℕ → List ℕ → ℕ → Type 0
-IsTelling false false slots service w named feed text status =
-    (verdict : FeedVerdict) × IsFeedTold slots (pages_of service) (certificate_at w) named feed verdict text × (status ≡ feed_status verdict)
-IsTelling true false slots service w named feed text status =
-    (verdict : FeedVerdict) × IsFeedRecorded slots (pages_of service) (certificate_at w) named feed verdict text × (status ≡ feed_status verdict)
-IsTelling false true slots service w named feed text status =
-    (verdict : RowVerdict) × IsRowTold slots (pages_of service) (certificate_at w) named feed verdict text × (status ≡ row_status verdict)
-IsTelling true true slots service w named feed text status =
-    (verdict : RowVerdict) × IsRowRecorded slots (pages_of service) (certificate_at w) named feed verdict text × (status ≡ row_status verdict)
+IsTelling json false slots service w named feed text status =
+    (verdict : FeedVerdict) × IsFeedVerdict slots (pages_of service) (certificate_at w) named feed verdict
+    × (text ≡ feed_said json (pages_of service) verdict) × (status ≡ feed_status verdict)
+IsTelling json true slots service w named feed text status =
+    (verdict : RowVerdict) × IsRowVerdict slots (pages_of service) (certificate_at w) named feed verdict
+    × (text ≡ row_said json (pages_of service) verdict) × (status ≡ row_status verdict)
 
 abbrev pub TellsFeed : (List ℕ → ℕ → Type 0) → Result (Told ℕ) ToolFault → Type 0
 TellsFeed Telling (Ok told) = Telling (string_bytes told.line) told.verdict
@@ -72,9 +74,7 @@ TellsFeed Telling (Err fault) = ⊤
 -- a read of the feed failed, or memory ran out
 abbrev pub IsFaultOfFeed : Result (Told ℕ) ToolFault → Type 0
 IsFaultOfFeed (Ok told) = ⊤
-IsFaultOfFeed (Err Feed) = ⊤
-IsFaultOfFeed (Err (Files NoMemory)) = ⊤
-IsFaultOfFeed (Err _) = ⊥
+IsFaultOfFeed (Err fault) = (f : FeedFault) × (fault ≡ of_feed f)
 
 -- the first three are a packet file, the text of a service and that of a certificate
 pub record IsMonitored (json by_rows : Bool) (a b c : List ℕ) (named : Option ℕ) (feed text : List ℕ) (status : ℕ) : Type 0 where

@@ -9,13 +9,16 @@ ghost use Rattle.ttx_files.specs.Devices.{AtCycle, AtService, AtCertificate, AtF
 ghost use Rattle.ttx_tool.specs.Devices.{is_tool_write, Fails, Reads, read_from, written_to};
 ghost use Rattle.ttx_tool.specs.Monitor.{IsTelling, IsFaultOfFeed, TellsFeed, MonitorsText, Monitors, MeansReceived};
 
-use super::feed_verdicts::{tell_bytes, tell_bytes_json, tell_rows, tell_rows_json};
+use super::feed_verdicts::answered;
 use super::reports::write_text;
 use crate::faults::ToolFault;
 use std::alloc::Global;
 use std::io::{Read, Write};
 use ttx_cycle::Counted;
+use ttx_feed_records::{monitor_feed_json, monitor_rows_json};
 use ttx_files::{Inputs, Told, read_inputs};
+use ttx_monitor::monitor_feed;
+use ttx_row_monitor::monitor_rows;
 
 /// How a feed is judged: from which slot of the cycle on, if that is named, and whether by rows; and whether the verdict is a JSON object.
 #[derive(Clone, Copy)]
@@ -43,10 +46,10 @@ fn tell<R: Read>(
         json,
     } = how;
     match (json, by_rows) {
-        (false, false) => tell_bytes(alloc, inputs, start, feed),
-        (false, true) => tell_rows(alloc, inputs, start, feed),
-        (true, false) => tell_bytes_json(alloc, inputs, start, feed),
-        (true, true) => tell_rows_json(alloc, inputs, start, feed),
+        (false, false) => Ok(answered(monitor_feed(alloc, inputs, start, feed)?)),
+        (false, true) => Ok(answered(monitor_rows(alloc, inputs, start, feed)?)),
+        (true, false) => Ok(answered(monitor_feed_json(alloc, inputs, start, feed)?)),
+        (true, true) => Ok(answered(monitor_rows_json(alloc, inputs, start, feed)?)),
     }
 }
 

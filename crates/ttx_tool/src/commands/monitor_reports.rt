@@ -11,7 +11,7 @@ ghost use Rattle.ttx_certificate.specs.Certificates.{certificate_of};
 ghost use Rattle.ttx_tool.specs.Devices.{Fails, read_from, written_to};
 ghost use Rattle.ttx_tool.specs.MonitorReports.{report_status, report_words, IsReportedAs, MonitorsLines, MeansReported};
 
-use super::feed_verdicts::feed_status;
+use super::certify::Status;
 use crate::faults::ToolFault;
 use std::alloc::Global;
 use std::io::{Read, Write};
@@ -31,7 +31,7 @@ fn report_status(verdict: Option<FeedVerdict>) -> u8
     ensures { result ≡ report_status verdict }
 {
     match verdict {
-        Some(verdict) => feed_status(verdict),
+        Some(verdict) => verdict.status(),
         None => 1,
     }
 }

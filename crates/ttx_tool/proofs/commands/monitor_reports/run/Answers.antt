@@ -1,9 +1,11 @@
-use Rattle.std.proofs.Common.{[], ◌∷◌, refl}
+use Rattle.std.proofs.Common.{[], ◌∷◌, refl, inr}
+use Rattle.ttx_certificate.specs.Certificates.{fields_of}
 use Rattle.ttx_cycle.specs.Counters.{inner_of, faults_of}
+use Rattle.ttx_cycle.specs.Cycles.{slots_of}
 use Rattle.ttx_files.specs.Devices.{AtCycle, AtService, AtCertificate, AtFeed, input, output}
 use Rattle.ttx_tool.specs.declared.faults.ToolFault.TheVariants.{Files}
 use Rattle.ttx_tool.proofs.Devices.{refused, went_on}
-use Rattle.ttx_tool.proofs.MonitoredFeeds.{lines_of, report_means_if}
+use Rattle.ttx_tool.proofs.MonitoredFeeds.{if_all, if_read, report_means}
 use Rattle.ttx_tool.proofs.commands.monitor_reports.run.Goals as goal
 
 pub returns-in-Err-clause-faults : goal.returns-in-Err-clause-faults
@@ -19,9 +21,10 @@ returns-in-Err-clause-faults g c =
 
 pub returns-clause-bytes : goal.returns-clause-bytes
 returns-clause-bytes g c =
-    lines_of c.in-Ok.inputs c.args.how.json c.args.how.asked (g.W.Write.contents (inner_of c.args.writer.now)) (g.W.Write.contents (inner_of c.report.new.writer))
-    c.report.result (g.A.Read.remaining (inner_of c.args.cycle.now)) (g.B.Read.remaining (inner_of c.args.service.now))
-    (g.C.Read.remaining (inner_of c.args.certificate.now)) (g.R.Read.remaining (inner_of c.args.feed.now)) c.in-Ok.ensures.bytes c.report.ensures.bytes
+    if_read (g.A.Read.remaining (inner_of c.args.cycle.now)) (g.B.Read.remaining (inner_of c.args.service.now))
+    (g.C.Read.remaining (inner_of c.args.certificate.now)) (g.R.Read.remaining (inner_of c.args.feed.now))
+    c.in-Ok.ensures.bytes c.report.ensures.bytes
+    (λ x y z u read is. inr (slots_of c.in-Ok.inputs.cycle, c.in-Ok.inputs.service, fields_of c.in-Ok.inputs.certificate, read.0, read.1, read.2, is))
 
 pub returns-clause-faults : goal.returns-clause-faults
 returns-clause-faults g c =
@@ -35,6 +38,7 @@ returns-clause-faults g c =
 
 pub returns-clause-means : goal.returns-clause-means
 returns-clause-means g c =
-    report_means_if c.args.how.json c.args.how.asked (g.W.Write.contents (inner_of c.args.writer.now)) (g.W.Write.contents (inner_of c.report.new.writer))
-    c.report.result (g.A.Read.remaining (inner_of c.args.cycle.now)) (g.B.Read.remaining (inner_of c.args.service.now))
-    (g.C.Read.remaining (inner_of c.args.certificate.now)) (g.R.Read.remaining (inner_of c.args.feed.now)) (returns-clause-bytes g c)
+    if_all (g.A.Read.remaining (inner_of c.args.cycle.now)) (g.B.Read.remaining (inner_of c.args.service.now))
+    (g.C.Read.remaining (inner_of c.args.certificate.now)) (g.R.Read.remaining (inner_of c.args.feed.now))
+    (returns-clause-bytes g c) (report_means c.args.how.json c.args.how.asked (g.W.Write.contents (inner_of c.args.writer.now))
+    (g.W.Write.contents (inner_of c.report.new.writer)) c.report.result)
