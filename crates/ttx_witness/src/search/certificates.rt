@@ -94,7 +94,7 @@ fn sort_places(entries: &mut Vec<Entry>) -> Result<(), NoMemory>
     ensures same { IsPermutation entries.old.items entries.new.items }
     ensures rising { OnOk result (rises (entry_places (entries_of entries.new.items)) ≡ true) }
 {
-    match entries.sort_by_cached_key(|entry| entry.place()) {
+    match entries.sort_by_key(|entry| entry.place()) {
         Ok(()) => Ok(()),
         Err(_) => Err(NoMemory),
     }

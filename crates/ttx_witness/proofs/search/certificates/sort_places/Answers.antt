@@ -6,6 +6,6 @@ use Rattle.ttx_witness.proofs.search.certificates.sort_places.Goals as goal
 
 pub returns-in-Ok-clause-rising : goal.returns-in-Ok-clause-rising
 returns-in-Ok-clause-rising c =
-    let sorted = c.sort_by_cached_key.new.self.items in
+    let sorted = c.sort_by_key.new.self.items in
     places_rise sorted (IsNonDecreasingBy-from_sort_by_key place_in sorted c.in-Ok.ensures.sorted (λ a r k called. search rules))
-    (pairs_sorted c.args.entries.now.items sorted c.sort_by_cached_key.ensures.permutation c.requires.apart)
+    (pairs_sorted c.args.entries.now.items sorted c.sort_by_key.ensures.permutation c.requires.apart)
