@@ -3,8 +3,8 @@ use Rattle.std.proofs.Common.{◌≡◌, ◌∙◌, ℕ, Bool, true, false, List
 use Rattle.std.specs.Str.{is_utf8}
 use Rattle.toml.specs.Data.{Members}
 use Rattle.toml.specs.Parse.{parse_document}
-use Rattle.ttx_source.specs.Services.{ServiceFields, service_of, service_in, read_bytes}
-use Rattle.ttx_source.specs.Values.{Fault, not_toml}
+use Rattle.ttx_source.specs.Services.{ServiceFields, service_of, service_in}
+use Rattle.ttx_source.specs.Values.{Fault}
 use Rattle.ttx_desk.specs.Again.{ComposedAgainIsTheSame}
 use Rattle.ttx_desk.specs.Composing.{author_in, ComposesTable, Composes}
 use Rattle.ttx_desk.specs.Services.{service_table}
