@@ -1,12 +1,13 @@
 -- A row of plain codes has nothing that looks other than it is written.
-use Rattle.std.proofs.Common.{◌≡◌, ℕ, ◌+◌, ◌<◌, Bool, true, false, not, ◌&&◌, ◌||◌, List, [], ◌∷◌, Option, Some, None, refl, sym, ap, ◌∙◌, arith}
-use Rattle.std.proofs.lemmas.Bool.{agree_below, agree_below_at, and_parts}
+use Rattle.std.proofs.Common.{◌≡◌, ℕ, ◌+◌, ◌<◌, Bool, true, false, not, ◌||◌, List, [], ◌∷◌, ◌++◌, append-nil, Option, Some, None, refl, sym, ap, ◌∙◌, arith}
+use Rattle.std.proofs.lemmas.Bool.{agree_below_at, and_parts}
 use Rattle.std.specs.List.{list_all}
 use Rattle.std.specs.Prelude.{◌==◌, is_none, position}
 use Rattle.ttx_charset.specs.Glyphs.{glyph, places, placed, base, national_set}
 use Rattle.ttx_header.specs.Control.{option_of}
 use Rattle.ttx_page.specs.Pages.{Page}
 use Rattle.ttx_check.specs.PageWarnings.{sign_warnings}
+use Rattle.ttx_check.specs.declared.warning.Warning.{Warning}
 use Rattle.ttx_check.specs.RowSigns.{is_plain, is_other, other_from, mosaic_after, is_escape, has_escape, is_open_after, boxed_after}
 
 none : (o : Option ℕ) → is_none o ≡ true → o ≡ None
@@ -56,6 +57,10 @@ no_box before (c ∷ row) h =
     let both = and_parts (is_plain c) (list_all is_plain row) h in
     rw (plain_box before c both.0) (no_box c row both.1)
 
-pub nothing_told : (p : Page) (number : ℕ) (row : List ℕ) → list_all is_plain row ≡ true → sign_warnings p number row ≡ []
+nothing_told : (p : Page) (number : ℕ) (row : List ℕ) → list_all is_plain row ≡ true → sign_warnings p number row ≡ []
 unfolding sign_warnings
 nothing_told p number row h = rw (no_other (option_of p.control) false 0 row h, no_escape row h, no_box 0 row h) refl
+
+pub nothing_added : (found : List Warning) (p : Page) (number : ℕ) (row : List ℕ) → list_all is_plain row ≡ true →
+    found ++ sign_warnings p number row ≡ found
+nothing_added found p number row h = rw (nothing_told p number row h) (append-nil found)

@@ -3,7 +3,7 @@
 --   initial_link, initial_warnings          the initial page of packet 8/30
 --   is_most, serial_warnings        a magazine with more than half of the packets, in serial transmission
 --   warnings                all of them
-use Rattle.std.specs.Prelude.{ℕ, zero, suc, ◌*◌, Bool, ◌&&◌, ◌==◌, nat_lt, if◌then◌else◌, List, [], ◌++◌, Option, Some, None}
+use Rattle.std.specs.Prelude.{ℕ, zero, suc, ◌*◌, Bool, ◌&&◌, nat_lt, if◌then◌else◌, List, [], ◌++◌, Option, Some, None}
 use Rattle.ttx_header.specs.Ids.{Id}
 use Rattle.ttx_tallies.specs.Tallies.{times_among}
 use Rattle.ttx_info.specs.Infos.{InfoFields}

@@ -124,7 +124,7 @@ fn push_found_signs(
 }
 
 /// Adds the warnings about the characters of the row with this number; 0 is `head`. Most rows have none, and are read only once.
-#[tactic(auto, using(crate::proofs::PlainRows::nothing_told))]
+#[tactic(auto, using(crate::proofs::PlainRows::nothing_added))]
 pub fn push_signs(
     found: &mut Vec<Warning>,
     page: &Page,

@@ -64,7 +64,7 @@ fn push_line(text: &mut String, id: PageId, count: usize) -> Result<(), AllocErr
 }
 
 // Adds the line of a page's number, which has so many pages, if it has several and none of them is kept.
-fn push_counted(
+fn push_several(
     text: &mut String,
     pages: &[Page],
     stays: &[Promise],
@@ -94,7 +94,7 @@ pub fn push_short(
         ++ rule.short_text (map page_of pages.now) (map promise_view stays.now) index (Some (page_of page.now))) }
 {
     if is_first(pages, index, page) {
-        push_counted(text, pages, stays, page, siblings(pages, page))
+        push_several(text, pages, stays, page, siblings(pages, page))
     } else {
         Ok(())
     }
@@ -133,7 +133,7 @@ pub(crate) fn push_short_numbers(
     let mut counts = tally(alloc, &keys_of(alloc, pages)?)?;
     for page in pages {
         let count = take_count(&mut counts, key_of(page));
-        push_counted(text, pages, stays, page, count)?;
+        push_several(text, pages, stays, page, count)?;
     }
     Ok(())
 }

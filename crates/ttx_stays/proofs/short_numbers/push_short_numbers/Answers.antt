@@ -1,4 +1,4 @@
-use Rattle.std.proofs.Common.{◌≡◌, ◌+◌, suc, ◌++◌, map, string_bytes, Some, ap, sym, ◌∙◌, subst, arith, append_assoc, append-nil}
+use Rattle.std.proofs.Common.{◌≡◌, ◌+◌, suc, ◌++◌, map, string_bytes, ap, sym, ◌∙◌, subst, arith, append_assoc}
 use Rattle.std.specs.Prelude.{◌==◌, if◌then◌else◌}
 use Rattle.ttx_page.specs.Views.{page_of}
 use Rattle.ttx_source.specs.PromiseViews.{promise_view}
@@ -22,8 +22,8 @@ loop-page-preserved c =
     let count = c.take_count-count.ensures.count ∙ c.loop-page.invariant.counts c.key_of.result ∙ ap (still_counted all i) key in
     let line = ap (counted_text pages stays (page_of page)) count ∙ counted_is_short all stays i page in
     record {
-      text = subst (λ n. string_bytes c.push_counted.new.text ≡ before ++ short_lines_to pages stays n) (sym next)
-          (c.in_ok-push_counted.ensures ∙ ap (λ t. t ++ counted_text pages stays (page_of page) c.take_count-count.result) c.loop-page.invariant.text
+      text = subst (λ n. string_bytes c.push_several.new.text ≡ before ++ short_lines_to pages stays n) (sym next)
+          (c.in_ok-push_several.ensures ∙ ap (λ t. t ++ counted_text pages stays (page_of page) c.take_count-count.result) c.loop-page.invariant.text
           ∙ append_assoc before (short_lines_to pages stays i) _
           ∙ ap (λ t. before ++ (short_lines_to pages stays i ++ t)) (line ∙ ap (short_text pages stays i) (sym here)));
       counts = λ n. c.take_count-count.ensures.rest n ∙ ap (λ k. if k == n then 0 else times_in c.loop-page.counts n) key
