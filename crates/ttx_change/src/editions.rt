@@ -15,7 +15,7 @@ use ttx_playout::{Edition, first_unfollowed};
 use ttx_proof::{first_amid, first_stored};
 
 // What the old cycle, which carries these pages, leaves open at the change; Yes if nothing.
-pub(crate) fn left_open(old: &Cycle, new: &Cycle, pages: &[Page]) -> LateSplice
+pub(crate) fn open_at(old: &Cycle, new: &Cycle, pages: &[Page]) -> LateSplice
     ensures { (c : Splice) → TellsOpen (record c { old = slots_of old.now; new = slots_of new.now; old_pages = map page_of pages.now }) result }
 {
     if let Some(amid) = first_amid(old, pages) {
@@ -42,5 +42,5 @@ pub(crate) fn left_open(old: &Cycle, new: &Cycle, pages: &[Page]) -> LateSplice
 pub fn open_between(current: &Edition, next: &Edition) -> LateSplice
     ensures { TellsOpen (change (edition_of current.now) (edition_of next.now)) result }
 {
-    left_open(&current.cycle, &next.cycle, current.service.pages())
+    open_at(&current.cycle, &next.cycle, current.service.pages())
 }

@@ -6,9 +6,9 @@ ghost use Rattle.ttx_proof.specs.SentVerdicts.{SentMeans};
 ghost use Rattle.ttx_proof.specs.SplicingFiles.{splice_in};
 ghost use Rattle.ttx_proof.specs.Splices.{Splice};
 ghost use Rattle.ttx_proof.specs.Verdicts.{IsSpliceVerdict, SpliceMeans};
-ghost use Rattle.ttx_change.specs.LateSplices.{IsJudged, IsLateSplice, MeansLate};
+ghost use Rattle.ttx_change.specs.LateSplices.{IsJudged, IsLateSplice, MeansLate, TellsOpen};
 
-use crate::editions::left_open;
+use crate::editions::open_at;
 use crate::verdict::LateSplice;
 use std::alloc::Global;
 use ttx_proof::{SentVerdict, Six, SpliceVerdict, sent_verdict, splice_six};
@@ -47,6 +47,14 @@ fn judged(alloc: Global, six: &Six, sent: Option<u32>) -> Result<SentVerdict, No
     }
 }
 
+// What the old cycle leaves open at the change; Yes if nothing.
+fn left_open(six: &Six) -> LateSplice
+    ensures { TellsOpen (splice_in six.now) result }
+{
+    let pages = six.services.old.pages();
+    open_at(&six.cycles.old, &six.cycles.new, pages)
+}
+
 /// The verdict on the splice of six files, after `sent` periods of the old cycle if that is known, and if it is yes, whether the old cycle
 /// leaves something open: an item of a page that is still to come, a page in which the new cycle would be stored, or one that no other
 /// page number follows.
@@ -63,11 +71,7 @@ pub fn late_splice(alloc: Global, six: &Six, sent: Option<u32>) -> Result<LateSp
     has_ranges(six);
     let verdict = judged(alloc, six, sent)?;
     match verdict {
-        SentVerdict::Yes => Ok(left_open(
-            &six.cycles.old,
-            &six.cycles.new,
-            six.services.old.pages(),
-        )),
+        SentVerdict::Yes => Ok(left_open(six)),
         SentVerdict::No(_) | SentVerdict::TooSoon { left: _ } => Ok(LateSplice::No(verdict)),
     }
 }

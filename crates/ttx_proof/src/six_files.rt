@@ -40,14 +40,9 @@ fn read_cycles<A: Read, B: Read>(
         ∷ input AtCycle (B.remaining (inner_of new.old)) (faults_of new.old) (faults_of new.new) ∷ []) (failed_at result) }
     ensures bytes { ReadsTwo ReadsPackets slots_of (A.remaining (inner_of old.old)) (B.remaining (inner_of new.old)) result }
 {
-    let old = match read_packets(alloc, old) {
-        Ok(cycle) => cycle,
-        Err(fault) => return Err(fault),
-    };
-    match read_packets(alloc, new) {
-        Ok(new) => Ok(Two { old, new }),
-        Err(fault) => Err(fault),
-    }
+    let old = read_packets(alloc, old)?;
+    let new = read_packets(alloc, new)?;
+    Ok(Two { old, new })
 }
 
 fn read_services<A: Read, B: Read>(
@@ -60,14 +55,9 @@ fn read_services<A: Read, B: Read>(
         ∷ input AtService (B.remaining (inner_of new.old)) (faults_of new.old) (faults_of new.new) ∷ []) (failed_at result) }
     ensures bytes { ReadsTwo ReadsService (λ service. service) (A.remaining (inner_of old.old)) (B.remaining (inner_of new.old)) result }
 {
-    let old = match read_definition(alloc, old) {
-        Ok(service) => service,
-        Err(fault) => return Err(fault),
-    };
-    match read_definition(alloc, new) {
-        Ok(new) => Ok(Two { old, new }),
-        Err(fault) => Err(fault),
-    }
+    let old = read_definition(alloc, old)?;
+    let new = read_definition(alloc, new)?;
+    Ok(Two { old, new })
 }
 
 fn read_witnesses<A: Read, B: Read>(
@@ -80,10 +70,7 @@ fn read_witnesses<A: Read, B: Read>(
         ∷ input AtCertificate (B.remaining (inner_of new.old)) (faults_of new.old) (faults_of new.new) ∷ []) (failed_at result) }
     ensures bytes { ReadsTwo ReadsWitness fields_of (A.remaining (inner_of old.old)) (B.remaining (inner_of new.old)) result }
 {
-    let old = match read_witness(alloc, old) {
-        Ok(certificate) => certificate,
-        Err(fault) => return Err(fault),
-    };
+    let old = read_witness(alloc, old)?;
     match read_witness(alloc, new) {
         Ok(new) => Ok(Two { old, new }),
         Err(fault) => Err(fault),

@@ -7,4 +7,4 @@ use Rattle.ttx_change.proofs.editions.open_between.Goals as goal
 pub returns : goal.returns
 returns c =
     let s = change (edition_of c.args.current.now) (edition_of c.args.next.now) in
-    subst (λ ps. TellsOpen (record s { old_pages = ps }) c.left_open.result) c.pages.ensures.value (c.left_open.ensures s)
+    subst (λ ps. TellsOpen (record s { old_pages = ps }) c.open_at.result) c.pages.ensures.value (c.open_at.ensures s)

@@ -1,7 +1,7 @@
 use Rattle.std.proofs.Common.{subst}
 use Rattle.ttx_proof.specs.SentVerdicts.{SentMeans}
 use Rattle.ttx_proof.specs.SplicingFiles.{splice_in}
-use Rattle.ttx_change.specs.LateSplices.{IsJudged, TellsOpen}
+use Rattle.ttx_change.specs.LateSplices.{IsJudged}
 use Rattle.ttx_change.proofs.LateVerdicts.{means_with}
 use Rattle.ttx_change.proofs.late_verdict.late_splice.Goals as goal
 
@@ -10,5 +10,4 @@ returns-in-Yes-clause-seen c =
     let s = splice_in c.args.six.now in
     means_with c.changes_are_whole.ensures s c.has_ranges.ensures c.args.sent
     (subst (IsJudged s c.args.sent) c.in-Yes.is c.in_ok-verdict.ensures.exact)
-    (subst (SentMeans s) c.in-Yes.is c.in_ok-verdict.ensures.means) c.left_open.result
-    (subst (λ ps. TellsOpen (record s { old_pages = ps }) c.left_open.result) c.pages.ensures.value (c.left_open.ensures s))
+    (subst (SentMeans s) c.in-Yes.is c.in_ok-verdict.ensures.means) c.left_open.result c.left_open.ensures

@@ -3,7 +3,7 @@ use Rattle.ttx_cycle.specs.Cycles.{slots_of}
 use Rattle.ttx_page.specs.Views.{page_of}
 use Rattle.ttx_playout.specs.LateSchedules.{AllAreFollowedAcross}
 use Rattle.ttx_playout.specs.LateChanges.{IsFirstUnfollowed}
-use Rattle.ttx_change.proofs.editions.left_open.Goals as goal
+use Rattle.ttx_change.proofs.editions.open_at.Goals as goal
 
 pub returns-in-Some-first_stored : goal.returns-in-Some-first_stored
 returns-in-Some-first_stored c = λ s. (
