@@ -34,4 +34,4 @@ pub use sent::SentVerdict;
 pub use six_files::Six;
 pub use spliced_files::{AfterPeriods, AtAnyTime, splice_six};
 pub use verdict::{SpliceReason, SpliceVerdict};
-pub use verdict_line::{SpliceJudge, answer_six};
+pub use verdict_line::{SpliceJudge, splice_files};

@@ -71,7 +71,7 @@ fn judge_six<J: SpliceJudge, A: Read, B: Read, C: Read, D: Read, E: Read, F: Rea
 ///
 /// Nothing is written before everything is judged. After a `Write` fault exactly the first `written` bytes of the line went out; after any
 /// other fault the writer is unchanged, whether or not the contents of the readers are known.
-pub fn answer_six<J: SpliceJudge, A: Read, B: Read, C: Read, D: Read, E: Read, F: Read, W: Write>(
+pub fn splice_files<J: SpliceJudge, A: Read, B: Read, C: Read, D: Read, E: Read, F: Read, W: Write>(
     alloc: Global,
     judge: &J,
     old: &mut Counted<A>,

@@ -1,4 +1,4 @@
-//! Changes from one cycle to another after so many periods of the old one: what `answer_six` returns, and what a head-end does.
+//! Changes from one cycle to another after so many periods of the old one: what `splice_files` returns, and what a head-end does.
 
 use crate::base::{self, SERVICE, certificate_text};
 use std::alloc::{AllocError, Global};
@@ -7,7 +7,7 @@ use ttx_certify::FilesFault;
 use ttx_cycle::faulty::{FaultyReader, FaultyWriter};
 use ttx_cycle::{Counted, Cycle};
 use ttx_playout::{ChangeFault, Edition, OnAir};
-use ttx_proof::{AfterPeriods, SentVerdict, SpliceReason, answer_six};
+use ttx_proof::{AfterPeriods, SentVerdict, SpliceReason, splice_files};
 use ttx_source::read_service;
 use ttx_witness::read_certificate;
 
@@ -42,7 +42,7 @@ fn changed(
     let mut old_certificate = Counted::new(FaultyReader::new(first, 11, None));
     let mut new_certificate = Counted::new(FaultyReader::new(second, 12, None));
     let mut writer = Counted::new(FaultyWriter::new(room, 7, None));
-    let answer = answer_six(
+    let answer = splice_files(
         alloc,
         &AfterPeriods(periods),
         &mut old,

@@ -15,7 +15,7 @@ use std::alloc::Global;
 use std::io::{Read, Write};
 use ttx_change::{Late, LateSplice};
 use ttx_cycle::Counted;
-use ttx_proof::{AfterPeriods, AtAnyTime, SentVerdict, SpliceJudge, SpliceVerdict, answer_six};
+use ttx_proof::{AfterPeriods, AtAnyTime, SentVerdict, SpliceJudge, SpliceVerdict, splice_files};
 
 /// What a change is judged for.
 #[derive(Clone, Copy)]
@@ -78,7 +78,7 @@ where
         old.old new.old old.new new.new writer.old writer.new) (failed_at result) }
     ensures untouched { IsUntouched is_tool_write result writer.old writer.new }
 {
-    match answer_six(
+    match splice_files(
         alloc,
         judge,
         &mut old.cycle,

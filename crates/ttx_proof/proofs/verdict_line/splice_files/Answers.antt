@@ -4,7 +4,7 @@ use Rattle.ttx_files.specs.Devices.{AtCycle, AtService, AtCertificate, input}
 use Rattle.ttx_files.proofs.Failures.{told_after}
 use Rattle.ttx_files.proofs.ToldFiles.{answers_read}
 use Rattle.ttx_proof.specs.SplicingFiles.{AreSixWith, IsSixRefused}
-use Rattle.ttx_proof.proofs.verdict_line.answer_six.Goals as goal
+use Rattle.ttx_proof.proofs.verdict_line.splice_files.Goals as goal
 
 pub returns-clause-bytes : goal.returns-clause-bytes
 returns-clause-bytes g c =
