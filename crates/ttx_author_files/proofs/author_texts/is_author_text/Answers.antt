@@ -1,12 +1,9 @@
-use Rattle.std.proofs.Common.{◌≡◌, ℕ, List, true, false, IfOk, inl, inr, refl, subst}
-use Rattle.std.specs.Str.{is_utf8, IsUtf8}
-use Rattle.std.proofs.lemmas.Bool.{cases_Bool}
-use Rattle.std.proofs.lemmas.Str.{is_utf8-from_IsUtf8, IsUtf8-from_is_utf8}
+use Rattle.std.proofs.Common.{◌≡◌, true, IfOk, refl, subst}
+use Rattle.std.specs.Str.{is_utf8}
+use Rattle.std.proofs.lemmas.Str.{is_utf8-from_IsUtf8}
+use Rattle.ttx_source.proofs.DocumentTexts.{not_utf8}
 use Rattle.ttx_author_files.specs.AuthorTexts.{is_author}
 use Rattle.ttx_author_files.proofs.author_texts.is_author_text.Goals as goal
-
-not_utf8 : (bytes : List ℕ) → (IsUtf8 bytes → ⊥) → is_utf8 bytes ≡ false
-not_utf8 bytes fails = elim (cases_Bool (is_utf8 bytes)) [ inl t ↦ absurd (fails (IsUtf8-from_is_utf8 bytes t)) | inr h ↦ h ]
 
 pub returns-in_default : goal.returns-in_default
 returns-in_default c = rw (not_utf8 c.args.bytes.now c.in_default.ensures.cases.0) refl

@@ -1,11 +1,8 @@
-use Rattle.std.proofs.Common.{◌≡◌, ℕ, List, true, false, inl, inr}
-use Rattle.std.specs.Str.{IsUtf8, is_utf8}
-use Rattle.std.proofs.lemmas.Bool.{cases_Bool}
-use Rattle.std.proofs.lemmas.Str.{is_utf8-from_IsUtf8, IsUtf8-from_is_utf8}
+use Rattle.std.proofs.Common.{◌≡◌, true}
+use Rattle.std.specs.Str.{is_utf8}
+use Rattle.std.proofs.lemmas.Str.{is_utf8-from_IsUtf8}
+use Rattle.ttx_source.proofs.DocumentTexts.{not_utf8}
 use Rattle.ttx_check.proofs.readings.reading_of.Goals as goal
-
-not_utf8 : (bs : List ℕ) → (IsUtf8 bs → ⊥) → is_utf8 bs ≡ false
-not_utf8 bs fails = elim (cases_Bool (is_utf8 bs)) [ inl t ↦ absurd (fails (IsUtf8-from_is_utf8 bs t)) | inr h ↦ h ]
 
 pub returns-in_default : goal.returns-in_default
 returns-in_default c = rw (not_utf8 c.args.bytes.now c.in_default.ensures.cases.0) c.toml_reading.ensures
