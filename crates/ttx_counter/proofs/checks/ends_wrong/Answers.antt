@@ -1,4 +1,4 @@
-use Rattle.std.proofs.Common.{◌≡◌, ◌∙◌, ap, ◌↔◌, true, subst, sym, refl, absurd}
+use Rattle.std.proofs.Common.{◌≡◌, ◌∙◌, ap, ◌↔◌, true, subst, sym}
 use Rattle.std.proofs.lemmas.Bool.{both_ways}
 use Rattle.ttx_page.specs.Streams.{repeated}
 use Rattle.ttx_page.specs.Views.{page_of, memory_of}
@@ -34,5 +34,5 @@ returns-else-keeps c =
     record {
       judged = λ rule. absurd (both_ways _ c.if-keeps.false (c.in_ok-keeps.ensures.kept.1
           (subst (λ id. KeepsRule s id k.start k.slots k.repeat c.args.keys.now) (sym c.id-2.ensures) rule)));
-      keeps = λ wrong. absurd (both_ways _ refl wrong);
+      keeps = λ wrong. absurd (both_ways _ c.if-keeps.false wrong);
     }
