@@ -1,7 +1,8 @@
 -- The text of a service with promises and stays, and what `plan` with spread rounds writes for it.
 --
 --   IsStayingText           the service, the promises and the stays of a text
---   IsStayingFault, DefinesStaying, IsNoStayingText, ReadsStaying       why a text has none; what is returned for it, and when it is read
+--   IsStayingFaultBy, DefinesStayingBy      why there are none, by how the three are read, and what is returned
+--   IsStayingFault, DefinesStaying, IsNoStayingText, ReadsStaying       the same for a text, and for one that is read
 --   Plans                   what is planned for the service of a text
 --   missed_text, Refuses, SaysFault         the lines of what no plan keeps; the fault in their place; the answer where there is no plan
 --   IsNoSpread, Spreads     why a text has no plan; what is returned for a text
@@ -29,9 +30,10 @@ use Rattle.ttx_source.specs.Faults.{fault_of}
 use Rattle.ttx_source.specs.PromiseViews.{promise_view}
 use Rattle.ttx_source.specs.Promises.{PromiseFields, read_promises, read_stays}
 use Rattle.ttx_source.specs.Services.{ServiceFields, read_bytes}
+use Rattle.ttx_source.specs.Values.{Fault}
 use Rattle.ttx_source.specs.declared.faults.SourceError.{SourceError}
 use Rattle.ttx_tool.specs.Plan.{IsNoText, planned_line}
-use Rattle.ttx_tool.specs.Promised.{IsPromisedText, IsPromisedFault}
+use Rattle.ttx_tool.specs.Promised.{IsPromisedText, IsFaultBy}
 use Rattle.ttx_tool.specs.Reports.{Reports}
 use Rattle.ttx_tool.specs.declared.commands.plan_spread.Spread.{Spread}
 use Rattle.ttx_tool.specs.declared.commands.plan_spread.Spread.TheVariants as spread
@@ -44,18 +46,25 @@ pub record IsStayingText (bytes : List ℕ) (service : ServiceFields) (promises 
   pub staying : read_stays bytes ≡ Ok stays
 
 -- the service or a promise is refused, or a stay is
+abbrev pub IsStayingFaultBy : Result ServiceFields (Fault × ℕ) → (promised staying : Result (List PromiseFields) (Fault × ℕ)) → SourceError → Type 0
+IsStayingFaultBy read promised staying error =
+    IsFaultBy read promised error
+    ⊎ ((service : ServiceFields) × (promises : List PromiseFields) × (read ≡ Ok service) × (promised ≡ Ok promises)
+    × (staying ≡ Err (fault_of error.fault, error.page)))
+
+abbrev pub DefinesStayingBy : Result ServiceFields (Fault × ℕ) → (promised staying : Result (List PromiseFields) (Fault × ℕ)) →
+    Result Staying SourceError → Type 0
+DefinesStayingBy read promised staying (Ok found) =
+    (read ≡ Ok found.promised.service)
+    × (promised ≡ Ok (map promise_view found.promised.promises.items))
+    × (staying ≡ Ok (map promise_view found.stays.items))
+DefinesStayingBy read promised staying (Err error) = IsStayingFaultBy read promised staying error
+
 abbrev pub IsStayingFault : List ℕ → SourceError → Type 0
-IsStayingFault bytes error =
-    IsPromisedFault bytes error
-    ⊎ ((service : ServiceFields) × (promises : List PromiseFields) × (read_bytes bytes ≡ Ok service) × (read_promises bytes ≡ Ok promises)
-    × (read_stays bytes ≡ Err (fault_of error.fault, error.page)))
+IsStayingFault bytes = IsStayingFaultBy (read_bytes bytes) (read_promises bytes) (read_stays bytes)
 
 abbrev pub DefinesStaying : List ℕ → Result Staying SourceError → Type 0
-DefinesStaying bytes (Ok staying) =
-    (read_bytes bytes ≡ Ok staying.promised.service)
-    × (read_promises bytes ≡ Ok (map promise_view staying.promised.promises.items))
-    × (read_stays bytes ≡ Ok (map promise_view staying.stays.items))
-DefinesStaying bytes (Err error) = IsStayingFault bytes error
+DefinesStaying bytes = DefinesStayingBy (read_bytes bytes) (read_promises bytes) (read_stays bytes)
 
 abbrev pub IsNoStayingText : List ℕ → ToolFault → Type 0
 IsNoStayingText bytes (Files (files.Service error)) = (length bytes ≤ most_bytes) × IsStayingFault bytes error

@@ -1,15 +1,19 @@
 //! What is read of the text of a service with promises and stays.
 
-ghost use Rattle.std.specs.Prelude.{◌∷◌, [], IfSome};
+ghost use Rattle.std.specs.Prelude.{◌∷◌, [], IfSome, codes};
+ghost use Rattle.toml.specs.View.{table_view};
 ghost use Rattle.ttx_cycle.specs.Counters.{inner_of};
 ghost use Rattle.ttx_files.specs.Devices.{AtService};
+ghost use Rattle.ttx_source.specs.Promises.{promises_of};
+ghost use Rattle.ttx_source.specs.Services.{service_of};
 ghost use Rattle.ttx_tool.specs.Devices.{Reads, read_from};
-ghost use Rattle.ttx_tool.specs.SpreadPlans.{DefinesStaying, ReadsStaying};
+ghost use Rattle.ttx_tool.specs.SpreadPlans.{DefinesStaying, DefinesStayingBy, ReadsStaying};
 
 use super::promised::{Promised, define_table};
 use crate::faults::ToolFault;
 use std::alloc::Global;
 use std::io::Read;
+use toml::Table;
 use ttx_cycle::Counted;
 use ttx_files::{FilesFault, read_service_text};
 use ttx_source::{Promise, SourceError, read_table, stays_of_table};
@@ -21,14 +25,22 @@ pub(super) struct Staying {
     pub stays: Vec<Promise>,
 }
 
+// The service, the promises and the stays in the table of a text.
+fn staying_table(alloc: Global, table: &Table) -> Result<Staying, SourceError>
+    ensures { DefinesStayingBy (service_of (table_view table.now)) (promises_of (codes "within") (table_view table.now))
+        (promises_of (codes "stays") (table_view table.now)) result }
+{
+    let promised = define_table(alloc, table)?;
+    let stays = stays_of_table(alloc, table)?;
+    Ok(Staying { promised, stays })
+}
+
 // The service, the promises and the stays of a text.
 fn define_stays(alloc: Global, text: &[u8]) -> Result<Staying, SourceError>
     ensures { DefinesStaying text.now result }
 {
     let table = read_table(alloc, text)?;
-    let promised = define_table(alloc, &table)?;
-    let stays = stays_of_table(alloc, &table)?;
-    Ok(Staying { promised, stays })
+    staying_table(alloc, &table)
 }
 
 /// Reads the text of a service with its promises and its stays. A fault of the service comes before one of the promises, and this before
