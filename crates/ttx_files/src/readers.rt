@@ -184,10 +184,7 @@ pub fn read_inputs<A: Read, B: Read, C: Read>(
         ∷ input AtCertificate (C.remaining (inner_of certificate.old)) (faults_of certificate.old) (faults_of certificate.new) ∷ [])
         (failed_at result) }
 {
-    let cycle = match read_packets(alloc, cycle) {
-        Ok(cycle) => cycle,
-        Err(fault) => return Err(fault),
-    };
+    let cycle = read_packets(alloc, cycle)?;
     match read_texts(alloc, service, certificate) {
         Ok(
             Texts {
