@@ -19,14 +19,6 @@ pub struct Spread {
     pub widest: u32,
 }
 
-/// The transmissions of an item that are held, the starts of its sure runs, and how far apart these are.
-#[derive(Drop)]
-pub struct Search {
-    pub ring: Ring,
-    pub starts: Vec<u32>,
-    pub spread: Option<Spread>,
-}
-
 /// The starts of all sure runs of an item, and how far apart these runs are.
 #[derive(Drop)]
 pub struct SureRuns {
@@ -95,32 +87,32 @@ fn keep_start(
 }
 
 /// Takes the next transmission of the period.
-pub fn note(search: &mut Search, t: Transmission) -> Result<(), NoMemory>
-    requires room { search.old.ring.window.capacity ≤ 8 }
-    ensures { OnOk result ((k : ℕ) (ts : List Transmission) → IsSearch k ts search.old → IsSearch k (ts ++ t ∷ []) search.new) }
+pub fn note(ring: &mut Ring, found: &mut SureRuns, t: Transmission) -> Result<(), NoMemory>
+    requires room { ring.old.window.capacity ≤ 8 }
+    ensures { OnOk result ((k : ℕ) (ts : List Transmission) → IsSearch k ts ring.old found.old → IsSearch k (ts ++ t ∷ []) ring.new found.new) }
 {
-    let run = push(&mut search.ring, t);
-    search.spread = keep_start(&mut search.starts, search.spread, run)?;
+    let run = push(ring, t);
+    found.spread = keep_start(&mut found.starts, found.spread, run)?;
     Ok(())
 }
 
 /// Takes the transmissions that follow the period, round the cycle.
-pub fn finish(search: &mut Search, period: u32) -> Result<(), NoMemory>
-    requires some { 1 ≤ search.old.ring.window.capacity }
-    requires room { search.old.ring.window.capacity ≤ 8 }
-    requires firsts { length search.old.ring.firsts.items ≤ 7 }
-    requires small { AllByRecursion (IsWithin 65536) search.old.ring.firsts.items }
+pub fn finish(ring: &mut Ring, found: &mut SureRuns, period: u32) -> Result<(), NoMemory>
+    requires some { 1 ≤ ring.old.window.capacity }
+    requires room { ring.old.window.capacity ≤ 8 }
+    requires firsts { length ring.old.firsts.items ≤ 7 }
+    requires small { AllByRecursion (IsWithin 65536) ring.old.firsts.items }
     requires short { period ≤ 65536 }
-    ensures { OnOk result ((k : ℕ) (ts : List Transmission) → IsSearch k ts search.old →
-        IsFound (runs period k ts) search.new.starts.items search.new.spread) }
+    ensures { OnOk result ((k : ℕ) (ts : List Transmission) → IsSearch k ts ring.old found.old →
+        IsFound (runs period k ts) found.new.starts.items found.new.spread) }
 {
-    if search.ring.firsts.is_empty() {
+    if ring.firsts.is_empty() {
         return Ok(());
     }
-    let count = search.ring.window.capacity() - 1;
+    let count = ring.window.capacity() - 1;
     for i in 0..count {
-        let run = push_further(&mut search.ring, period);
-        search.spread = keep_start(&mut search.starts, search.spread, run)?;
+        let run = push_further(ring, period);
+        found.spread = keep_start(&mut found.starts, found.spread, run)?;
     }
     Ok(())
 }
