@@ -1,6 +1,6 @@
 //! The starts of all sure runs of one item, and how far apart they are.
 
-ghost use Rattle.std.specs.Prelude.{◌≡◌, ◌≤◌, ℕ, List, [], ◌∷◌, ◌++◌, length, IfOk, OnOk, ◌-ℤ◌, Some, None};
+ghost use Rattle.std.specs.Prelude.{◌≡◌, ◌≤◌, ℕ, List, [], ◌∷◌, ◌++◌, length, OnOk, ◌-ℤ◌, Some, None};
 ghost use Rattle.std.specs.List.{AllByRecursion};
 ghost use Rattle.ttx_witness.specs.runs.Transmissions.{Transmission, runs};
 ghost use Rattle.ttx_witness.specs.runs.SureStarts.{above_zero, widened, sure_starts, spread_of, IsFound};
@@ -53,36 +53,29 @@ fn widened(spread: Option<Spread>, run: Run) -> Spread
 
 // Keeps the start of a run if the run is sure.
 #[tactic(auto, unfolding(crate::specs::runs::SureStarts::sure_runs, crate::specs::runs::SureStarts::spread_of))]
-fn keep_sure(
-    starts: &mut Vec<u32>,
-    spread: Option<Spread>,
-    run: Run,
-) -> Result<Option<Spread>, NoMemory>
-    ensures starts { OnOk result (starts.new.items ≡ starts.old.items ++ sure_starts (run ∷ [])) }
-    ensures spread { IfOk result (λ s. s ≡ spread_of spread (run ∷ [])) }
+fn keep_sure(found: &mut SureRuns, run: Run) -> Result<(), NoMemory>
+    ensures starts { OnOk result (found.new.starts.items ≡ found.old.starts.items ++ sure_starts (run ∷ [])) }
+    ensures spread { OnOk result (found.new.spread ≡ spread_of found.old.spread (run ∷ [])) }
 {
     if !run.sure {
-        return Ok(spread);
+        return Ok(());
     }
-    if starts.push(run.start.unsigned_abs()).is_err() {
+    if found.starts.push(run.start.unsigned_abs()).is_err() {
         return Err(NoMemory);
     }
-    Ok(Some(widened(spread, run)))
+    found.spread = Some(widened(found.spread, run));
+    Ok(())
 }
 
 // Keeps the start of the run that has just ended, if one has.
 #[tactic(auto, unfolding(crate::specs::runs::SureStarts::sure_runs, crate::specs::runs::SureStarts::spread_of))]
-fn keep_start(
-    starts: &mut Vec<u32>,
-    spread: Option<Spread>,
-    run: Option<Run>,
-) -> Result<Option<Spread>, NoMemory>
-    ensures starts { OnOk result (starts.new.items ≡ starts.old.items ++ sure_starts (listed run)) }
-    ensures spread { IfOk result (λ s. s ≡ spread_of spread (listed run)) }
+fn keep_start(found: &mut SureRuns, run: Option<Run>) -> Result<(), NoMemory>
+    ensures starts { OnOk result (found.new.starts.items ≡ found.old.starts.items ++ sure_starts (listed run)) }
+    ensures spread { OnOk result (found.new.spread ≡ spread_of found.old.spread (listed run)) }
 {
     match run {
-        Some(run) => keep_sure(starts, spread, run),
-        None => Ok(spread),
+        Some(run) => keep_sure(found, run),
+        None => Ok(()),
     }
 }
 
@@ -92,7 +85,7 @@ pub fn note(ring: &mut Ring, found: &mut SureRuns, t: Transmission) -> Result<()
     ensures { OnOk result ((k : ℕ) (ts : List Transmission) → IsSearch k ts ring.old found.old → IsSearch k (ts ++ t ∷ []) ring.new found.new) }
 {
     let run = push(ring, t);
-    found.spread = keep_start(&mut found.starts, found.spread, run)?;
+    keep_start(found, run)?;
     Ok(())
 }
 
@@ -112,7 +105,7 @@ pub fn finish(ring: &mut Ring, found: &mut SureRuns, period: u32) -> Result<(), 
     let count = ring.window.capacity() - 1;
     for i in 0..count {
         let run = push_further(ring, period);
-        found.spread = keep_start(&mut found.starts, found.spread, run)?;
+        keep_start(found, run)?;
     }
     Ok(())
 }

@@ -41,8 +41,8 @@ loop-i-preserved c =
             r.0 ++ listed c.push_further-run.result,
             p.round k c.loop-i.i ts r.0 lt r.1,
             found_more r.0 (listed c.push_further-run.result) c.loop-i.found.starts.items c.loop-i.found.spread
-                c.keep_start.new.starts.items c.in_ok-found.field-0 r.2 c.in_ok-found.ensures.starts
-                c.in_ok-found.ensures.spread,
+                c.keep_start.new.found.starts.items c.keep_start.new.found.spread r.2 c.in_ok-keep_start.ensures.starts
+                c.in_ok-keep_start.ensures.spread,
           );
     }
 
