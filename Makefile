@@ -31,7 +31,9 @@ ttx:
 
 test:
 	RT_JOBS=$(JOBS) python3 tools/progress.py out/test.log rt ci
+	python3 tools/refusals.py out/test.log
 	$(MAKE) --no-print-directory --jobs $$(nproc) --output-sync $(SCRIPTS)
+	python3 tools/edits.py --jobs $(JOBS)
 
 $(filter %.py,$(SCRIPTS)):
 	python3 $@ $(BUILT) $(CASES)

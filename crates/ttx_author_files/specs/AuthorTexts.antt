@@ -3,7 +3,8 @@
 --   begins_author           the first key of a text is `author`
 --   is_author_text          and its value is 1, in a TOML text
 --   IsTextBy, StandsFor     the service text of a file: composed of an author's text, otherwise the bytes themselves
---   IsAuthorLines, IsRefusedAuthor    the lines about an author's text that has none
+--   IsAuthorLines           the lines about an author's text that has none
+--   IsStandingBy            what bytes stand for
 --   ReadsStanding           what is returned for the bytes of a file
 use Rattle.std.specs.Prelude.{◌≡◌, ◌<◌, ◌≤◌, ℕ, ℤ, pos, negsuc, Bool, true, false, ◌&&◌, ◌==◌, List, codes, length, ⊤, Option, Some, None, option_and_then, if◌then◌else◌, Result, Ok, Err, string_bytes}
 use Rattle.std.specs.Str.{bytes_eq, is_utf8}
@@ -64,31 +65,15 @@ StandsFor bytes text = (length bytes ≤ most_bytes) × IsTextBy (is_author_text
 abbrev pub IsAuthorLines : List ℕ → List ℕ → List ℕ → Type 0
 IsAuthorLines name bytes lines = (why : ComposeFault) × Composes (author_in bytes) (Err why) × IsRefusal name bytes why lines
 
-abbrev pub IsRefusedAuthor : List ℕ → List ℕ → List ℕ → Type 0
-IsRefusedAuthor name bytes lines = (is_author_text bytes ≡ true) × IsAuthorLines name bytes lines
-
--- the same by why it has none
-abbrev pub IsLinesAbout : List ℕ → List ℕ → ComposeFault → Standing → Type 0
-IsLinesAbout name bytes why (Text text) = ⊥
-IsLinesAbout name bytes why (Lines lines) = IsRefusal name bytes why (string_bytes lines)
-
--- what is returned for an author's text
-abbrev pub ReadsAuthor : List ℕ → List ℕ → Result Standing FilesFault → Type 0
-ReadsAuthor name bytes (Ok (Text text)) = IsTextBy true bytes text.items
-ReadsAuthor name bytes (Ok (Lines lines)) = IsAuthorLines name bytes (string_bytes lines)
-ReadsAuthor name bytes (Err files.NoMemory) = ⊤
-ReadsAuthor name bytes (Err _) = ⊥
-
--- and for any bytes
-abbrev pub ReadsBytes : List ℕ → List ℕ → Result Standing FilesFault → Type 0
-ReadsBytes name bytes (Ok (Text text)) = IsTextBy (is_author_text bytes) bytes text.items
-ReadsBytes name bytes (Ok (Lines lines)) = IsRefusedAuthor name bytes (string_bytes lines)
-ReadsBytes name bytes (Err files.NoMemory) = ⊤
-ReadsBytes name bytes (Err _) = ⊥
+-- what bytes stand for, by whether they are an author's text
+abbrev pub IsStandingBy : Bool → List ℕ → List ℕ → Standing → Type 0
+IsStandingBy is name bytes (Text text) = IsTextBy is bytes text.items
+IsStandingBy is name bytes (Lines lines) = (is ≡ true) × IsAuthorLines name bytes (string_bytes lines)
 
 -- a file whose bytes are too many or not read stands for nothing
 abbrev pub ReadsStanding : List ℕ → List ℕ → Result Standing FilesFault → Type 0
+ReadsStanding name bytes (Ok standing) = (length bytes ≤ most_bytes) × IsStandingBy (is_author_text bytes) name bytes standing
 ReadsStanding name bytes (Err (Read which)) = which ≡ text.Service
 ReadsStanding name bytes (Err (TooLong which)) = (which ≡ text.Service) × (most_bytes < length bytes)
 ReadsStanding name bytes (Err files.NoMemory) = ⊤
-ReadsStanding name bytes answer = (length bytes ≤ most_bytes) × ReadsBytes name bytes answer
+ReadsStanding name bytes (Err _) = ⊥

@@ -6,8 +6,7 @@
 --   IsRefusal               the lines about an author's text that has no service text
 --   IsRefusedFile           these lines, and no text
 --   IsTold                  the status, the text and the lines
---   IsNoMemory, IsNotTold   why there are none: lack of memory, or the author's text is not read
---   TellsText               what is written for the bytes of an author's text
+--   IsNotTold               why there are none: the author's text is not read
 --   ComposesFile            what was written to the text's file and to the output, for each answer
 use Rattle.std.specs.Prelude.{◌≡◌, ◌⊎◌, ℕ, ◌<◌, ◌≤◌, List, [], ◌∷◌, ◌++◌, codes, length, string_bytes, ⊤, false, Option, Some, Result, Ok, Err}
 use Rattle.std.specs.Fmt.{decimal}
@@ -17,7 +16,6 @@ use Rattle.ttx_files.specs.Answers.{WritesBoth}
 use Rattle.ttx_files.specs.declared.faults.FilesFault.{FilesFault}
 use Rattle.ttx_files.specs.declared.faults.FilesFault.TheVariants.{Read, TooLong, Write, NoMemory}
 use Rattle.ttx_files.specs.declared.faults.TextFile.TheVariants as text
-use Rattle.ttx_files.specs.declared.told.Filed.{Filed}
 use Rattle.toml.specs.Data.{Members}
 use Rattle.ttx_author_files.specs.AuthorReports.{IsReportFor}
 use Rattle.ttx_desk.specs.Composing.{author_in, BeginsWith, Composes, first_comment}
@@ -67,21 +65,12 @@ IsToldBy name bytes status text lines =
 abbrev pub IsTold : List ℕ → List ℕ → ℕ → List ℕ → List ℕ → Type 0
 IsTold name bytes status text lines = (length bytes ≤ most_bytes) × IsToldBy name bytes status text lines
 
--- why an author's text that is read has neither text nor lines
-abbrev pub IsNoMemory : FilesFault → Type 0
-IsNoMemory NoMemory = ⊤
-IsNoMemory _ = ⊥
-
 -- why nothing is written: the author's text is not read
 abbrev pub IsNotTold : List ℕ → FilesFault → Type 0
 IsNotTold bytes (Read which) = which ≡ text.Service
 IsNotTold bytes (TooLong which) = (which ≡ text.Service) × (most_bytes < length bytes)
 IsNotTold bytes NoMemory = ⊤
 IsNotTold bytes _ = ⊥
-
-abbrev pub TellsText : List ℕ → List ℕ → Result (Filed ℕ) FilesFault → Type 0
-TellsText name bytes (Ok told) = IsTold name bytes told.verdict told.file.items (string_bytes told.line)
-TellsText name bytes (Err fault) = IsNotTold bytes fault
 
 -- Ok: text and lines. A write fault: the first `written` bytes of both. Otherwise nothing, and why.
 abbrev pub ComposesFile : List ℕ → List ℕ → Option (List ℕ) → Option (List ℕ) → Option (List ℕ) → Option (List ℕ) → Result ℕ FilesFault → Type 0

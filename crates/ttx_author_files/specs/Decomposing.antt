@@ -5,7 +5,6 @@
 --   IsUnsaidFile            no text, and the line about a service text that no author's text means
 --   IsTold                  the status, the text and the line
 --   IsNotTold               why there are none: the service text is refused, or not read
---   TellsText               what is written for the bytes of a service text
 --   DecomposesFile          what was written to the text's file and to the output, for each answer
 use Rattle.std.specs.Prelude.{◌≡◌, ◌⊎◌, ℕ, ◌<◌, ◌≤◌, List, [], ◌∷◌, ◌++◌, codes, length, string_bytes, ⊤, Option, Result, Ok, Err}
 use Rattle.std.specs.Fmt.{decimal}
@@ -15,7 +14,6 @@ use Rattle.ttx_files.specs.Answers.{WritesBoth}
 use Rattle.ttx_files.specs.declared.faults.FilesFault.{FilesFault}
 use Rattle.ttx_files.specs.declared.faults.FilesFault.TheVariants.{Service, Read, TooLong, Write, NoMemory}
 use Rattle.ttx_files.specs.declared.faults.TextFile.TheVariants as text
-use Rattle.ttx_files.specs.declared.told.Filed.{Filed}
 use Rattle.ttx_desk.specs.Decomposing.{Decomposes}
 use Rattle.ttx_desk.specs.declared.decomposition.Decomposed.{Decomposed}
 use Rattle.ttx_desk.specs.declared.decomposition.DecomposeFault.TheVariants as fault
@@ -60,10 +58,6 @@ IsNotTold bytes (Read which) = which ≡ text.Service
 IsNotTold bytes (TooLong which) = (which ≡ text.Service) × (most_bytes < length bytes)
 IsNotTold bytes NoMemory = ⊤
 IsNotTold bytes _ = ⊥
-
-abbrev pub TellsText : List ℕ → List ℕ → Result (Filed ℕ) FilesFault → Type 0
-TellsText name bytes (Ok told) = IsTold name bytes told.verdict told.file.items (string_bytes told.line)
-TellsText name bytes (Err fault) = IsNotTold bytes fault
 
 -- Ok: text and line. A write fault: the first `written` bytes of both. Otherwise nothing, and why.
 abbrev pub DecomposesFile : List ℕ → List ℕ → Option (List ℕ) → Option (List ℕ) → Option (List ℕ) → Option (List ℕ) → Result ℕ FilesFault → Type 0

@@ -13,6 +13,7 @@ use std::alloc::{AllocError, Global};
 use toml::Table;
 use ttx_desk::{Mistake, mistake_place, push_fault, service_of};
 use ttx_mistakes::{LongReport, Paper, Placed, Reported, Style, pages_in, report_on};
+use ttx_source::read_document;
 
 // A mistake for which an author's text is not composed, at its place.
 fn placed_mistake(
@@ -96,13 +97,10 @@ pub(crate) fn reported_author(
 ) -> Result<Reported, AllocError>
     ensures { IfOk result (λ report. rule.IsAuthorReport style.entry bytes.now report.text.items report.status) }
 {
-    let Ok(text) = std::str::from_utf8(bytes) else {
+    let Some(author) = read_document(alloc, bytes)? else {
         return Err(AllocError);
     };
-    let Ok(author) = toml::table_from_str(alloc, text) else {
-        return Err(AllocError);
-    };
-    let report = author_report(alloc, style, text, &author)?;
+    let report = author_report(alloc, style, author.text, &author.table)?;
     Ok(Reported {
         text: report.text,
         status: report.status,

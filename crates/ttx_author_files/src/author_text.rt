@@ -6,6 +6,7 @@ ghost use Rattle.ttx_files.specs.Answers.{IsUntouched, is_write};
 ghost use Rattle.ttx_files.specs.Devices.{AtService, AtOutput, input, output, failed_at, IsFirstFailure, IsOf};
 ghost use Rattle.ttx_author_files.specs.Decomposing as rule;
 
+use crate::service_text::filed;
 use std::alloc::{AllocError, Global};
 use std::io::{Read, Write};
 use ttx_cycle::Counted;
@@ -25,14 +26,8 @@ fn tell_text(alloc: Global, decomposed: Decomposed) -> Result<Filed<u8>, FilesFa
         × (string_bytes told.line ≡ rule.decomposed_line (length decomposed.service.pages))) }
     ensures fault { IfErr result (λ fault. fault ≡ FilesFault.NoMemory) }
 {
-    match decomposed_line(alloc, decomposed.service.pages().len()) {
-        Ok(line) => Ok(Filed {
-            verdict: 0,
-            file: decomposed.text.into_bytes(),
-            line,
-        }),
-        Err(_) => Err(FilesFault::NoMemory),
-    }
+    let line = decomposed_line(alloc, decomposed.service.pages().len());
+    filed(0, decomposed.text.into_bytes(), line)
 }
 
 // The line about a service text for which no author's text was found.
@@ -51,14 +46,7 @@ fn tell_unsaid(alloc: Global, name: &str) -> Result<Filed<u8>, FilesFault>
     ensures told { IfOk result (λ told. (told.verdict ≡ 1) × (told.file.items ≡ []) × (string_bytes told.line ≡ rule.unsaid_line name.now)) }
     ensures fault { IfErr result (λ fault. fault ≡ FilesFault.NoMemory) }
 {
-    match unsaid_line(alloc, name) {
-        Ok(line) => Ok(Filed {
-            verdict: 1,
-            file: Vec::new(alloc),
-            line,
-        }),
-        Err(_) => Err(FilesFault::NoMemory),
-    }
+    filed(1, Vec::new(alloc), unsaid_line(alloc, name))
 }
 
 // The status, the text and the line about a service text.
@@ -71,26 +59,6 @@ fn tell(alloc: Global, name: &str, service: &[u8]) -> Result<Filed<u8>, FilesFau
         Err(DecomposeFault::Service(error)) => Err(FilesFault::Service(error)),
         Err(DecomposeFault::Unsaid) => tell_unsaid(alloc, name),
         Err(DecomposeFault::NoMemory) => Err(FilesFault::NoMemory),
-    }
-}
-
-// The same of what is read.
-fn read_told<R: Read>(
-    alloc: Global,
-    name: &str,
-    reader: &mut Counted<R>,
-) -> Result<Filed<u8>, FilesFault>
-    ensures bytes { IfSome (R.remaining (inner_of reader.old)) (λ bytes. rule.TellsText name.now bytes result) }
-    ensures own { IfErr result (IsOf (AtService ∷ [])) }
-    ensures faults { IsFirstFailure (input AtService None (faults_of reader.old) (faults_of reader.new) ∷ []) (failed_at result) }
-{
-    let text = match read_service_text(alloc, reader) {
-        Ok(text) => text,
-        Err(fault) => return Err(fault),
-    };
-    match tell(alloc, name, text.as_slice()) {
-        Ok(told) => Ok(told),
-        Err(fault) => Err(fault),
     }
 }
 
@@ -115,12 +83,8 @@ pub fn decompose_file<R: Read, O: Write, W: Write>(
         ∷ output (faults_of file.old) (faults_of file.new) ∷ output (faults_of writer.old) (faults_of writer.new) ∷ []) (failed_at result) }
     ensures untouched { IsUntouched is_write result file.old file.new × IsUntouched is_write result writer.old writer.new }
 {
-    let told = match read_told(alloc, name, reader) {
-        Ok(told) => told,
-        Err(fault) => return Err(fault),
-    };
-    match write_both(file, told.file.as_slice(), writer, told.line.as_bytes()) {
-        Ok(()) => Ok(told.verdict),
-        Err(fault) => Err(fault),
-    }
+    let text = read_service_text(alloc, reader)?;
+    let told = tell(alloc, name, text.as_slice())?;
+    write_both(file, told.file.as_slice(), writer, told.line.as_bytes())?;
+    Ok(told.verdict)
 }

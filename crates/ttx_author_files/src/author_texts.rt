@@ -1,14 +1,14 @@
 //! Authors' texts where a service is read.
 
-ghost use Rattle.std.specs.Prelude.{◌≡◌, ◌≤◌, ◌∷◌, [], length, codes, None, option_map, option_and_then, IfSome, IfOk, IfErr};
+ghost use Rattle.std.specs.Prelude.{◌≡◌, ◌≤◌, ◌∷◌, [], true, length, codes, None, option_map, option_and_then, IfSome, IfOk, IfErr};
 ghost use Rattle.toml.specs.Data.{get_member, as_integer};
-ghost use Rattle.toml.specs.Parse.{skip_bom, parse_document};
+ghost use Rattle.toml.specs.Parse.{skip_bom};
 ghost use Rattle.toml.specs.View.{table_view, view};
 ghost use Rattle.toml_parser.specs.Reading.{key_view};
 ghost use Rattle.ttx_cycle.specs.Counters.{inner_of, faults_of};
 ghost use Rattle.ttx_files.specs.Devices.{AtService, input, failed_at, IsFirstFailure, IsOf};
 ghost use Rattle.ttx_author_files.specs.AuthorTexts as rule;
-ghost use Rattle.ttx_author_files.specs.Composing.{IsNoMemory};
+ghost use Rattle.ttx_source.specs.Documents.{document_of};
 
 use crate::service_text::refusal;
 use std::alloc::{AllocError, Global};
@@ -17,8 +17,9 @@ use toml::{Table, Value};
 use toml_parser::text::{byte_at, first, skip_blank};
 use toml_parser::{Key, ParseError, dotted_key};
 use ttx_cycle::Counted;
-use ttx_desk::{ComposeFault, compose};
+use ttx_desk::compose;
 use ttx_files::{FilesFault, read_service_text};
+use ttx_source::read_document;
 
 // The text after a byte order mark, if there is one.
 fn skip_bom(s: &str) -> &str
@@ -60,10 +61,7 @@ fn member<'a>(table: &'a Table, key: &str) -> Option<&'a Value>
 fn mark_of(table: &Table) -> Option<i64>
     ensures { result ≡ option_and_then as_integer (get_member (codes "author") (table_view table.now)) }
 {
-    match member(table, "author") {
-        Some(value) => value.as_integer(),
-        None => None,
-    }
+    member(table, "author")?.as_integer()
 }
 
 // Whether the key `author` has the value 1.
@@ -77,35 +75,24 @@ fn is_marked(table: &Table) -> bool
 }
 
 // The same of the table that bytes are, if they are one.
-fn is_marked_text(alloc: Global, text: &str) -> Result<bool, AllocError>
-    ensures { IfOk result (λ is. is ≡ rule.is_marked (parse_document text.now)) }
+fn is_marked_text(alloc: Global, bytes: &[u8]) -> Result<bool, AllocError>
+    ensures { IfOk result (λ is. is ≡ rule.is_marked (document_of bytes.now)) }
 {
-    match toml::table_from_str(alloc, text) {
-        Ok(table) => Ok(is_marked(&table)),
-        Err(error) if error.is_memory() => Err(AllocError),
-        Err(_) => Ok(false),
-    }
-}
-
-// Whether a text is an author's text.
-fn is_author(alloc: Global, text: &str) -> Result<bool, AllocError>
-    ensures { IfOk result (λ is. is ≡ rule.is_author text.now) }
-{
-    if begins_author(alloc, text)? {
-        is_marked_text(alloc, text)
-    } else {
-        Ok(false)
+    match read_document(alloc, bytes)? {
+        Some(document) => Ok(is_marked(&document.table)),
+        None => Ok(false),
     }
 }
 
 /// Whether bytes are an author's text: a TOML text whose first key is `author`, with the value 1. `Err` if memory runs out.
+#[tactic(auto, using(ttx_source::proofs::DocumentTexts::not_utf8))]
 pub fn is_author_text(alloc: Global, bytes: &[u8]) -> Result<bool, AllocError>
     ensures { IfOk result (λ is. is ≡ rule.is_author_text bytes.now) }
 {
-    let Ok(text) = std::str::from_utf8(bytes) else {
-        return Ok(false);
-    };
-    is_author(alloc, text)
+    match std::str::from_utf8(bytes) {
+        Ok(text) => Ok(begins_author(alloc, text)? && is_marked_text(alloc, bytes)?),
+        Err(_) => Ok(false),
+    }
 }
 
 /// The service text that a file stands for, or the lines about an author's text that has none.
@@ -115,40 +102,24 @@ pub enum Standing {
     Lines(String),
 }
 
-// The lines about an author's text that has no service text.
-fn author_lines(
-    alloc: Global,
-    name: &str,
-    author: &[u8],
-    fault: &ComposeFault,
-) -> Result<Standing, FilesFault>
-    ensures lines { IfOk result (rule.IsLinesAbout name.now author.now fault.now) }
-    ensures refused { IfErr result IsNoMemory }
-{
-    match refusal(alloc, name, author, fault) {
-        Ok(lines) => Ok(Standing::Lines(lines)),
-        Err(fault) => Err(fault),
-    }
-}
-
 // The service text of an author's text, or the lines about what is wrong.
-fn author_standing(alloc: Global, name: &str, author: &[u8]) -> Result<Standing, FilesFault>
-    ensures { rule.ReadsAuthor name.now author.now result }
+fn author_standing(alloc: Global, name: &str, author: &[u8]) -> Result<Standing, AllocError>
+    ensures { IfOk result (rule.IsStandingBy true name.now author.now) }
 {
     match compose(alloc, author, name) {
         Ok(composed) => Ok(Standing::Text(composed.text.into_bytes())),
-        Err(fault) => author_lines(alloc, name, author, &fault),
+        Err(fault) => Ok(Standing::Lines(refusal(alloc, name, author, &fault)?)),
     }
 }
 
 // What bytes stand for.
-fn standing_of(alloc: Global, name: &str, bytes: Vec<u8>) -> Result<Standing, FilesFault>
-    ensures { rule.ReadsBytes name.now bytes.items result }
+fn standing_of(alloc: Global, name: &str, bytes: Vec<u8>) -> Result<Standing, AllocError>
+    ensures { IfOk result (rule.IsStandingBy (rule.is_author_text bytes.items) name.now bytes.items) }
 {
-    match is_author_text(alloc, bytes.as_slice()) {
-        Ok(true) => author_standing(alloc, name, bytes.as_slice()),
-        Ok(false) => Ok(Standing::Text(bytes)),
-        Err(_) => Err(FilesFault::NoMemory),
+    if is_author_text(alloc, bytes.as_slice())? {
+        author_standing(alloc, name, bytes.as_slice())
+    } else {
+        Ok(Standing::Text(bytes))
     }
 }
 
@@ -163,12 +134,9 @@ pub fn read_standing<R: Read>(
     ensures own { IfErr result (IsOf (AtService ∷ [])) }
     ensures faults { IsFirstFailure (input AtService None (faults_of reader.old) (faults_of reader.new) ∷ []) (failed_at result) }
 {
-    let text = match read_service_text(alloc, reader) {
-        Ok(text) => text,
-        Err(fault) => return Err(fault),
-    };
+    let text = read_service_text(alloc, reader)?;
     match standing_of(alloc, name, text) {
         Ok(standing) => Ok(standing),
-        Err(fault) => Err(fault),
+        Err(_) => Err(FilesFault::NoMemory),
     }
 }

@@ -44,15 +44,10 @@ pub fn check_file<R: Read, W: Write>(
         ∷ output (faults_of writer.old) (faults_of writer.new) ∷ []) (failed_at result) }
     ensures untouched { IsUntouched is_write result writer.old writer.new }
 {
-    let text = match read_service_text(alloc, reader) {
-        Ok(text) => text,
-        Err(fault) => return Err(fault),
-    };
+    let text = read_service_text(alloc, reader)?;
     let Ok(report) = report_by_key(alloc, text.as_slice(), style) else {
         return Err(FilesFault::NoMemory);
     };
-    match write_line(writer, report.text.as_slice()) {
-        Ok(()) => Ok(report.status),
-        Err(fault) => Err(fault),
-    }
+    write_line(writer, report.text.as_slice())?;
+    Ok(report.status)
 }

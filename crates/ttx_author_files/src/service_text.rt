@@ -1,6 +1,6 @@
 //! `compose`: the service text of an author's text, or its mistakes.
 
-ghost use Rattle.std.specs.Prelude.{◌≡◌, ◌∷◌, [], None, length, IfSome, IfOk, IfErr, string_bytes};
+ghost use Rattle.std.specs.Prelude.{◌≡◌, ◌∷◌, [], None, Ok, length, IfSome, IfOk, IfErr, string_bytes};
 ghost use Rattle.ttx_cycle.specs.Counters.{inner_of, faults_of};
 ghost use Rattle.ttx_files.specs.Answers.{IsUntouched, is_write};
 ghost use Rattle.ttx_files.specs.Devices.{AtService, AtOutput, input, output, failed_at, IsFirstFailure, IsOf};
@@ -30,31 +30,33 @@ fn unsaid_line(alloc: Global, name: &str) -> Result<String, AllocError>
     Ok(line)
 }
 
-// The status, the text and the line of an author's text that is composed.
-fn tell_text(alloc: Global, composed: Composed) -> Result<Filed<u8>, FilesFault>
-    ensures told { IfOk result (λ told. (told.verdict ≡ 0) × (told.file.items ≡ string_bytes composed.text)
-        × (string_bytes told.line ≡ rule.composed_line (length composed.service.pages))) }
+/// A status, a text and a line, unless memory ran out.
+pub(crate) fn filed(
+    verdict: u8,
+    file: Vec<u8>,
+    line: Result<String, AllocError>,
+) -> Result<Filed<u8>, FilesFault>
+    ensures told { IfOk result (λ told. (told.verdict ≡ verdict) × (told.file.items ≡ file.items) × (line ≡ Ok told.line)) }
     ensures fault { IfErr result (λ fault. fault ≡ FilesFault.NoMemory) }
 {
-    match composed_line(alloc, composed.service.pages().len()) {
+    match line {
         Ok(line) => Ok(Filed {
-            verdict: 0,
-            file: composed.text.into_bytes(),
+            verdict,
+            file,
             line,
         }),
         Err(_) => Err(FilesFault::NoMemory),
     }
 }
 
-// The lines, unless memory ran out.
-fn lines_or_memory(lines: Result<String, AllocError>) -> Result<String, FilesFault>
-    ensures ok { IfOk result (λ line. lines ≡ Ok line) }
+// The status, the text and the line of an author's text that is composed.
+fn tell_text(alloc: Global, composed: Composed) -> Result<Filed<u8>, FilesFault>
+    ensures told { IfOk result (λ told. (told.verdict ≡ 0) × (told.file.items ≡ string_bytes composed.text)
+        × (string_bytes told.line ≡ rule.composed_line (length composed.service.pages))) }
     ensures fault { IfErr result (λ fault. fault ≡ FilesFault.NoMemory) }
 {
-    match lines {
-        Ok(line) => Ok(line),
-        Err(_) => Err(FilesFault::NoMemory),
-    }
+    let line = composed_line(alloc, composed.service.pages().len());
+    filed(0, composed.text.into_bytes(), line)
 }
 
 // The lines about an author's text whose service text is refused: those that `check` writes.
@@ -79,18 +81,15 @@ pub(crate) fn refusal(
     name: &str,
     author: &[u8],
     fault: &ComposeFault,
-) -> Result<String, FilesFault>
-    ensures lines { IfOk result (λ lines. rule.IsRefusal name.now author.now fault.now (string_bytes lines)) }
-    ensures refused { IfErr result rule.IsNoMemory }
+) -> Result<String, AllocError>
+    ensures { IfOk result (λ lines. rule.IsRefusal name.now author.now fault.now (string_bytes lines)) }
 {
     match fault {
-        ComposeFault::NotToml => lines_or_memory(toml_report(alloc, name, author)),
-        ComposeFault::Mistakes(mistakes) => {
-            lines_or_memory(mistakes_report(alloc, name, author, mistakes.as_slice()))
-        }
-        ComposeFault::Unsaid => lines_or_memory(unsaid_line(alloc, name)),
-        ComposeFault::Service(_) => lines_or_memory(service_lines(alloc, name, author)),
-        ComposeFault::NoMemory => Err(FilesFault::NoMemory),
+        ComposeFault::NotToml => toml_report(alloc, name, author),
+        ComposeFault::Mistakes(found) => mistakes_report(alloc, name, author, found.as_slice()),
+        ComposeFault::Unsaid => unsaid_line(alloc, name),
+        ComposeFault::Service(_) => service_lines(alloc, name, author),
+        ComposeFault::NoMemory => Err(AllocError),
     }
 }
 
@@ -103,46 +102,19 @@ fn tell_lines(
 ) -> Result<Filed<u8>, FilesFault>
     ensures told { IfOk result (λ told. (told.verdict ≡ 1) × (told.file.items ≡ [])
         × rule.IsRefusal name.now author.now fault.now (string_bytes told.line)) }
-    ensures refused { IfErr result rule.IsNoMemory }
+    ensures fault { IfErr result (λ fault. fault ≡ FilesFault.NoMemory) }
 {
-    match refusal(alloc, name, author, fault) {
-        Ok(line) => Ok(Filed {
-            verdict: 1,
-            file: Vec::new(alloc),
-            line,
-        }),
-        Err(fault) => Err(fault),
-    }
+    filed(1, Vec::new(alloc), refusal(alloc, name, author, fault))
 }
 
 // The status, the text and the lines about an author's text.
 fn tell(alloc: Global, name: &str, author: &[u8]) -> Result<Filed<u8>, FilesFault>
     ensures told { IfOk result (λ told. rule.IsToldBy name.now author.now told.verdict told.file.items (string_bytes told.line)) }
-    ensures refused { IfErr result rule.IsNoMemory }
+    ensures fault { IfErr result (λ fault. fault ≡ FilesFault.NoMemory) }
 {
     match compose(alloc, author, name) {
         Ok(composed) => tell_text(alloc, composed),
         Err(fault) => tell_lines(alloc, name, author, &fault),
-    }
-}
-
-// The same of what is read.
-fn read_told<R: Read>(
-    alloc: Global,
-    name: &str,
-    reader: &mut Counted<R>,
-) -> Result<Filed<u8>, FilesFault>
-    ensures bytes { IfSome (R.remaining (inner_of reader.old)) (λ bytes. rule.TellsText name.now bytes result) }
-    ensures own { IfErr result (IsOf (AtService ∷ [])) }
-    ensures faults { IsFirstFailure (input AtService None (faults_of reader.old) (faults_of reader.new) ∷ []) (failed_at result) }
-{
-    let text = match read_service_text(alloc, reader) {
-        Ok(text) => text,
-        Err(fault) => return Err(fault),
-    };
-    match tell(alloc, name, text.as_slice()) {
-        Ok(told) => Ok(told),
-        Err(fault) => Err(fault),
     }
 }
 
@@ -168,12 +140,8 @@ pub fn compose_file<R: Read, O: Write, W: Write>(
         ∷ output (faults_of file.old) (faults_of file.new) ∷ output (faults_of writer.old) (faults_of writer.new) ∷ []) (failed_at result) }
     ensures untouched { IsUntouched is_write result file.old file.new × IsUntouched is_write result writer.old writer.new }
 {
-    let told = match read_told(alloc, name, reader) {
-        Ok(told) => told,
-        Err(fault) => return Err(fault),
-    };
-    match write_both(file, told.file.as_slice(), writer, told.line.as_bytes()) {
-        Ok(()) => Ok(told.verdict),
-        Err(fault) => Err(fault),
-    }
+    let text = read_service_text(alloc, reader)?;
+    let told = tell(alloc, name, text.as_slice())?;
+    write_both(file, told.file.as_slice(), writer, told.line.as_bytes())?;
+    Ok(told.verdict)
 }

@@ -1,9 +1,5 @@
 -- Texts that are appended one after another, and what is known of an answer.
-use Rattle.std.proofs.Common.{◌≡◌, ◌∙◌, ℕ, List, ◌++◌, Result, Ok, Err, IfOk, OnOk, ap, append_assoc}
-
-pub ok_map : {A E : Type 0} (P Q : A → Type 0) (r : Result A E) → ((a : A) → P a → Q a) → IfOk r P → IfOk r Q
-ok_map P Q (Ok a) f h = f a h
-ok_map P Q (Err e) f h = h
+use Rattle.std.proofs.Common.{◌≡◌, ◌∙◌, ℕ, List, ◌++◌, Result, Ok, Err, OnOk, ap, append_assoc}
 
 pub after_one : (t a b m : List ℕ) → m ≡ t ++ a → m ++ b ≡ t ++ (a ++ b)
 after_one t a b m e = ap (λ x. x ++ b) e ∙ append_assoc t a b

@@ -12,7 +12,7 @@ use crate::depths::is_within;
 use crate::translation::service_of;
 use std::alloc::{AllocError, Global};
 use toml::Table;
-use ttx_source::{Service, SourceError, read_service};
+use ttx_source::{Service, SourceError, read_document, read_service};
 
 /// An author's text, and the service that it means.
 #[derive(Drop)]
@@ -125,12 +125,9 @@ fn decompose_text(alloc: Global, service: &[u8], source: &str) -> Result<String,
     ensures text { IfOk result (λ text. rule.IsAuthorText (string_bytes text) service.now) }
     ensures refused { IfErr result rule.IsUnsaid }
 {
-    let Ok(text) = std::str::from_utf8(service) else {
-        return Err(DecomposeFault::Unsaid);
-    };
-    match toml::table_from_str(alloc, text) {
-        Ok(table) => decompose_table(alloc, &table, source),
-        Err(_) => Err(DecomposeFault::NoMemory),
+    match read_document(alloc, service) {
+        Ok(Some(document)) => decompose_table(alloc, &document.table, source),
+        _ => Err(DecomposeFault::NoMemory),
     }
 }
 

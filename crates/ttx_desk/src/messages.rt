@@ -11,6 +11,7 @@ use std::alloc::{AllocError, Global};
 use toml::Table;
 use ttx_digits::push_decimal;
 use ttx_places::position_of;
+use ttx_source::read_document;
 
 // The most lines.
 const MOST: usize = 100;
@@ -112,16 +113,13 @@ pub fn mistakes_report(
 ) -> Result<String, AllocError>
     ensures { IfOk result (λ report. rule.IsMistakeReport file.now author.now mistakes.now (string_bytes report)) }
 {
-    let Ok(text) = std::str::from_utf8(author) else {
-        return Err(AllocError);
-    };
-    let Ok(table) = toml::table_from_str(alloc, text) else {
+    let Some(document) = read_document(alloc, author)? else {
         return Err(AllocError);
     };
     let author = Author {
         file,
-        text,
-        table: &table,
+        text: document.text,
+        table: &document.table,
     };
     report_on(alloc, &author, mistakes)
 }

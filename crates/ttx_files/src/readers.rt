@@ -100,10 +100,7 @@ pub fn read_definition<R: Read>(
     ensures faults { IsFirstFailure (input AtService (R.remaining (inner_of reader.old)) (faults_of reader.old) (faults_of reader.new) ∷ [])
         (failed_at result) }
 {
-    let text = match read_service_text(alloc, reader) {
-        Ok(text) => text,
-        Err(fault) => return Err(fault),
-    };
+    let text = read_service_text(alloc, reader)?;
     match read_service(alloc, text.as_slice()) {
         Ok(service) => Ok(service),
         Err(error) => Err(FilesFault::Service(error)),
@@ -144,17 +141,10 @@ pub fn read_texts<A: Read, B: Read>(
         ∷ input AtCertificate (B.remaining (inner_of certificate.old)) (faults_of certificate.old) (faults_of certificate.new) ∷ [])
         (failed_at result) }
 {
-    let service = match read_definition(alloc, service) {
-        Ok(service) => service,
-        Err(fault) => return Err(fault),
-    };
-    match read_witness(alloc, certificate) {
-        Ok(certificate) => Ok(Texts {
-            service,
-            certificate,
-        }),
-        Err(fault) => Err(fault),
-    }
+    Ok(Texts {
+        service: read_definition(alloc, service)?,
+        certificate: read_witness(alloc, certificate)?,
+    })
 }
 
 /// Reads a packet file, then a service definition. The second is not read if the first is refused.
@@ -171,14 +161,9 @@ pub fn read_served<A: Read, B: Read>(
         ∷ input AtService (B.remaining (inner_of service.old)) (faults_of service.old) (faults_of service.new) ∷ [])
         (failed_at result) }
 {
-    let cycle = match read_packets(alloc, cycle) {
-        Ok(cycle) => cycle,
-        Err(fault) => return Err(fault),
-    };
-    match read_definition(alloc, service) {
-        Ok(service) => Ok(Served { cycle, service }),
-        Err(fault) => Err(fault),
-    }
+    let cycle = read_packets(alloc, cycle)?;
+    let service = read_definition(alloc, service)?;
+    Ok(Served { cycle, service })
 }
 
 /// Reads a packet file, a service definition and a certificate, in this order. None is read after one that is refused.
@@ -199,10 +184,7 @@ pub fn read_inputs<A: Read, B: Read, C: Read>(
         ∷ input AtCertificate (C.remaining (inner_of certificate.old)) (faults_of certificate.old) (faults_of certificate.new) ∷ [])
         (failed_at result) }
 {
-    let cycle = match read_packets(alloc, cycle) {
-        Ok(cycle) => cycle,
-        Err(fault) => return Err(fault),
-    };
+    let cycle = read_packets(alloc, cycle)?;
     match read_texts(alloc, service, certificate) {
         Ok(
             Texts {

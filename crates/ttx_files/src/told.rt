@@ -34,12 +34,7 @@ pub fn write_told<V: Drop, W: Write>(
         (faults_of writer.new) result }
     ensures untouched { IsUntouched is_write result writer.old writer.new }
 {
-    let Told { verdict, line } = match told {
-        Ok(told) => told,
-        Err(fault) => return Err(fault),
-    };
-    match write_line(writer, line.as_bytes()) {
-        Ok(()) => Ok(verdict),
-        Err(fault) => Err(fault),
-    }
+    let Told { verdict, line } = told?;
+    write_line(writer, line.as_bytes())?;
+    Ok(verdict)
 }

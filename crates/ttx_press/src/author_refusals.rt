@@ -17,7 +17,7 @@ use ttx_check::spots::spot_of;
 use ttx_desk::{ComposeFault, Mistake, mistake_place, push_fault, service_of};
 use ttx_newsroom::PressFault;
 use ttx_places::{place_of, position_of};
-use ttx_source::{SourceError, SourceFault};
+use ttx_source::{SourceError, SourceFault, read_document};
 
 // Adds the line and the column of a byte.
 fn push_position(words: &mut String, text: &[u8], place: usize) -> Result<(), AllocError>
@@ -156,11 +156,8 @@ pub(crate) fn refused_author(alloc: Global, text: &[u8], why: &ComposeFault) -> 
     requires { rule.IsWhy (author_in text.now) why.now }
     ensures { Says (rule.IsAuthorRefusal text.now) result }
 {
-    let Ok(text) = std::str::from_utf8(text) else {
-        return PressFault::NoMemory;
-    };
-    match toml::table_from_str(alloc, text) {
-        Ok(author) => refused_table(alloc, text, &author, why),
-        Err(_) => PressFault::NoMemory,
+    match read_document(alloc, text) {
+        Ok(Some(author)) => refused_table(alloc, author.text, &author.table, why),
+        _ => PressFault::NoMemory,
     }
 }

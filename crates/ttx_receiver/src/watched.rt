@@ -115,10 +115,14 @@ impl<R: Receiver> Receiver for Watched<R> {
     fn step(&mut self, slot: Option<&[u8; 42]>) {
         step_touches();
         idle_steps_touch_nothing();
+        if self.touched.everything {
+            self.receiver.step(slot);
+            return;
+        }
         let bytes = bytes_of(slot);
         let storing = self.receiver.memory().storing();
         self.receiver.step(slot);
-        if !self.touched.everything && self.receiver.memory().storing() {
+        if self.receiver.memory().storing() {
             let touch = touch_of(&self.receiver.selection(), storing, bytes);
             self.touched.add(touch);
         }

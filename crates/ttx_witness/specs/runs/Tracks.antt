@@ -17,7 +17,7 @@ use Rattle.ttx_witness.specs.runs.SureStarts.{sure_starts, spread_of}
 use Rattle.ttx_witness.specs.declared.runs.window.Recent.{Recent}
 use Rattle.ttx_witness.specs.declared.runs.ring.Ring.{Ring}
 use Rattle.ttx_witness.specs.declared.runs.named_starts.Track.{Track}
-use Rattle.ttx_witness.specs.declared.runs.sure_starts.Search.{Search}
+use Rattle.ttx_witness.specs.declared.runs.sure_starts.SureRuns.{SureRuns}
 
 abbrev pub ended : ℕ → List Transmission → List Run
 ended k ts = map run_of (windows (suc k) ts)
@@ -72,7 +72,7 @@ pub record IsTrack (k limit : ℕ) (starts : List ℕ) (ts : List Transmission) 
   pub recent : IsRecent k ts (held_in track.recent)
   pub progress : track.progress ≡ after_runs limit starts not_begun (ended k ts)
 
-pub record IsSearch (k : ℕ) (ts : List Transmission) (search : Search) : Type 0 where
-  pub recent : IsRecent k ts (held_in_ring search.ring)
-  pub starts : search.starts.items ≡ sure_starts (ended k ts)
-  pub spread : search.spread ≡ spread_of None (ended k ts)
+pub record IsSearch (k : ℕ) (ts : List Transmission) (ring : Ring) (found : SureRuns) : Type 0 where
+  pub recent : IsRecent k ts (held_in_ring ring)
+  pub starts : found.starts.items ≡ sure_starts (ended k ts)
+  pub spread : found.spread ≡ spread_of None (ended k ts)

@@ -9,8 +9,8 @@ ghost use Rattle.ttx_witness.specs.runs.Tracks.{held_in, IsRecent, IsTrack, IsWi
 
 use crate::runs::confirmation::Progress;
 use crate::runs::named_starts::{self, Track};
-use crate::runs::ring::empty_ring;
-use crate::runs::sure_starts::{self, Search, SureRuns};
+use crate::runs::ring::{Ring, begin};
+use crate::runs::sure_starts::{self, SureRuns};
 use crate::runs::transmissions::Transmission;
 use crate::runs::window::Recent;
 use arrayvec::ArrayVec;
@@ -46,9 +46,10 @@ pub fn nothing_confirmed(repeat: usize) -> Track
     }
 }
 
-/// The starts of all sure runs among the transmissions of a period, and how far apart these runs are.
+/// The starts of all sure runs among the transmissions of a period, and how far apart these runs are. What the ring held is lost.
 pub fn search_item(
     alloc: Global,
+    ring: &mut Ring,
     sent: &[Transmission],
     repeat: usize,
     period: u32,
@@ -59,22 +60,16 @@ pub fn search_item(
     requires short { period ≤ 65536 }
     ensures { IfOk result (λ s. IsFound (runs period (repeat - 1) sent.now) s.starts.items s.spread) }
 {
-    let ring = empty_ring(alloc, repeat)?;
-    let mut search = Search {
-        ring,
+    begin(alloc, ring, repeat)?;
+    let mut found = SureRuns {
         starts: Vec::new(alloc),
         spread: None,
     };
     for i in 0..sent.len() {
-        sure_starts::note(&mut search, sent[i])?;
+        sure_starts::note(ring, &mut found, sent[i])?;
     }
-    sure_starts::finish(&mut search, period)?;
-    let Search {
-        ring: _,
-        starts,
-        spread,
-    } = search;
-    Ok(SureRuns { starts, spread })
+    sure_starts::finish(ring, &mut found, period)?;
+    Ok(found)
 }
 
 /// How many of the named starts the transmissions of a period confirm, and which are late. Allocates no memory.

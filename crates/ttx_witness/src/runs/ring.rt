@@ -1,6 +1,6 @@
 //! The transmissions of one item that are held while starts are searched.
 
-ghost use Rattle.std.specs.Prelude.{◌≡◌, ◌≤◌, ◌<◌, ◌+◌, ◌-◌, ◌*◌, ℕ, List, [], ◌∷◌, ◌++◌, length, if◌then◌else◌, ◌==◌, Some, None, IfOk};
+ghost use Rattle.std.specs.Prelude.{◌≡◌, ◌≤◌, ◌<◌, ◌+◌, ◌-◌, ◌*◌, ℕ, List, [], ◌∷◌, ◌++◌, length, if◌then◌else◌, ◌==◌, Some, None, IfOk, OnOk};
 ghost use Rattle.std.specs.List.{AllByRecursion, list_all};
 ghost use Rattle.ttx_witness.specs.runs.Transmissions.{run_of};
 ghost use Rattle.ttx_witness.specs.runs.Tracks.{ended, held_in_ring, keep_last, listed, IsRecent, IsRound, IsWithin};
@@ -32,6 +32,21 @@ pub fn empty_ring(alloc: Global, repeat: usize) -> Result<Ring, NoMemory>
         window,
         firsts: ArrayVec::new(),
     })
+}
+
+/// Empties the ring for the next item, whose runs have `repeat` transmissions. Allocates only if those of the item before had another
+/// number.
+pub fn begin(alloc: Global, ring: &mut Ring, repeat: usize) -> Result<(), NoMemory>
+    requires some { 1 ≤ repeat }
+    ensures held { OnOk result (IsRecent (repeat - 1) [] (held_in_ring ring.new)) }
+{
+    if ring.window.capacity() != repeat {
+        *ring = empty_ring(alloc, repeat)?;
+        return Ok(());
+    }
+    ring.window.clear();
+    ring.firsts.clear();
+    Ok(())
 }
 
 // Whether all transmissions in the window are sure.

@@ -1,6 +1,6 @@
 //! The starts of all sure runs of one item, and how far apart they are.
 
-ghost use Rattle.std.specs.Prelude.{◌≡◌, ◌≤◌, ℕ, List, [], ◌∷◌, ◌++◌, length, IfOk, OnOk, ◌-ℤ◌, Some, None};
+ghost use Rattle.std.specs.Prelude.{◌≡◌, ◌≤◌, ℕ, List, [], ◌∷◌, ◌++◌, length, OnOk, ◌-ℤ◌, Some, None};
 ghost use Rattle.std.specs.List.{AllByRecursion};
 ghost use Rattle.ttx_witness.specs.runs.Transmissions.{Transmission, runs};
 ghost use Rattle.ttx_witness.specs.runs.SureStarts.{above_zero, widened, sure_starts, spread_of, IsFound};
@@ -17,14 +17,6 @@ pub struct Spread {
     pub first_end: i32,
     pub previous: i32,
     pub widest: u32,
-}
-
-/// The transmissions of an item that are held, the starts of its sure runs, and how far apart these are.
-#[derive(Drop)]
-pub struct Search {
-    pub ring: Ring,
-    pub starts: Vec<u32>,
-    pub spread: Option<Spread>,
 }
 
 /// The starts of all sure runs of an item, and how far apart these runs are.
@@ -61,66 +53,59 @@ fn widened(spread: Option<Spread>, run: Run) -> Spread
 
 // Keeps the start of a run if the run is sure.
 #[tactic(auto, unfolding(crate::specs::runs::SureStarts::sure_runs, crate::specs::runs::SureStarts::spread_of))]
-fn keep_sure(
-    starts: &mut Vec<u32>,
-    spread: Option<Spread>,
-    run: Run,
-) -> Result<Option<Spread>, NoMemory>
-    ensures starts { OnOk result (starts.new.items ≡ starts.old.items ++ sure_starts (run ∷ [])) }
-    ensures spread { IfOk result (λ s. s ≡ spread_of spread (run ∷ [])) }
+fn keep_sure(found: &mut SureRuns, run: Run) -> Result<(), NoMemory>
+    ensures starts { OnOk result (found.new.starts.items ≡ found.old.starts.items ++ sure_starts (run ∷ [])) }
+    ensures spread { OnOk result (found.new.spread ≡ spread_of found.old.spread (run ∷ [])) }
 {
     if !run.sure {
-        return Ok(spread);
+        return Ok(());
     }
-    if starts.push(run.start.unsigned_abs()).is_err() {
+    if found.starts.push(run.start.unsigned_abs()).is_err() {
         return Err(NoMemory);
     }
-    Ok(Some(widened(spread, run)))
+    found.spread = Some(widened(found.spread, run));
+    Ok(())
 }
 
 // Keeps the start of the run that has just ended, if one has.
 #[tactic(auto, unfolding(crate::specs::runs::SureStarts::sure_runs, crate::specs::runs::SureStarts::spread_of))]
-fn keep_start(
-    starts: &mut Vec<u32>,
-    spread: Option<Spread>,
-    run: Option<Run>,
-) -> Result<Option<Spread>, NoMemory>
-    ensures starts { OnOk result (starts.new.items ≡ starts.old.items ++ sure_starts (listed run)) }
-    ensures spread { IfOk result (λ s. s ≡ spread_of spread (listed run)) }
+fn keep_start(found: &mut SureRuns, run: Option<Run>) -> Result<(), NoMemory>
+    ensures starts { OnOk result (found.new.starts.items ≡ found.old.starts.items ++ sure_starts (listed run)) }
+    ensures spread { OnOk result (found.new.spread ≡ spread_of found.old.spread (listed run)) }
 {
     match run {
-        Some(run) => keep_sure(starts, spread, run),
-        None => Ok(spread),
+        Some(run) => keep_sure(found, run),
+        None => Ok(()),
     }
 }
 
 /// Takes the next transmission of the period.
-pub fn note(search: &mut Search, t: Transmission) -> Result<(), NoMemory>
-    requires room { search.old.ring.window.capacity ≤ 8 }
-    ensures { OnOk result ((k : ℕ) (ts : List Transmission) → IsSearch k ts search.old → IsSearch k (ts ++ t ∷ []) search.new) }
+pub fn note(ring: &mut Ring, found: &mut SureRuns, t: Transmission) -> Result<(), NoMemory>
+    requires room { ring.old.window.capacity ≤ 8 }
+    ensures { OnOk result ((k : ℕ) (ts : List Transmission) → IsSearch k ts ring.old found.old → IsSearch k (ts ++ t ∷ []) ring.new found.new) }
 {
-    let run = push(&mut search.ring, t);
-    search.spread = keep_start(&mut search.starts, search.spread, run)?;
+    let run = push(ring, t);
+    keep_start(found, run)?;
     Ok(())
 }
 
 /// Takes the transmissions that follow the period, round the cycle.
-pub fn finish(search: &mut Search, period: u32) -> Result<(), NoMemory>
-    requires some { 1 ≤ search.old.ring.window.capacity }
-    requires room { search.old.ring.window.capacity ≤ 8 }
-    requires firsts { length search.old.ring.firsts.items ≤ 7 }
-    requires small { AllByRecursion (IsWithin 65536) search.old.ring.firsts.items }
+pub fn finish(ring: &mut Ring, found: &mut SureRuns, period: u32) -> Result<(), NoMemory>
+    requires some { 1 ≤ ring.old.window.capacity }
+    requires room { ring.old.window.capacity ≤ 8 }
+    requires firsts { length ring.old.firsts.items ≤ 7 }
+    requires small { AllByRecursion (IsWithin 65536) ring.old.firsts.items }
     requires short { period ≤ 65536 }
-    ensures { OnOk result ((k : ℕ) (ts : List Transmission) → IsSearch k ts search.old →
-        IsFound (runs period k ts) search.new.starts.items search.new.spread) }
+    ensures { OnOk result ((k : ℕ) (ts : List Transmission) → IsSearch k ts ring.old found.old →
+        IsFound (runs period k ts) found.new.starts.items found.new.spread) }
 {
-    if search.ring.firsts.is_empty() {
+    if ring.firsts.is_empty() {
         return Ok(());
     }
-    let count = search.ring.window.capacity() - 1;
+    let count = ring.window.capacity() - 1;
     for i in 0..count {
-        let run = push_further(&mut search.ring, period);
-        search.spread = keep_start(&mut search.starts, search.spread, run)?;
+        let run = push_further(ring, period);
+        keep_start(found, run)?;
     }
     Ok(())
 }

@@ -16,6 +16,7 @@ ghost use Rattle.ttx_witness.specs.search.Surveys.{survey_slots, survey_pages, A
 use crate::faults::bad_slots::bad_slot;
 use crate::faults::other_subpages::OtherSubpages;
 use crate::faults::reason::PageFault;
+use crate::runs::ring::empty_ring;
 use crate::search::start_names::name_page;
 use crate::search::survey::{Survey, surveyed_at};
 use crate::sent::collection::collect;
@@ -71,9 +72,11 @@ fn name_pages(
     requires none { entries.old.items ≡ [] }
     ensures { IfOk result (λ least. AreNamedIn survey.now (26 * length survey.now.pages.now) entries.new.items least) }
 {
+    let mut ring = empty_ring(alloc, usize::from(survey.repeat))?;
     let mut least = Some(0);
     for index in 0..survey.pages.len() {
-        least = name_page(alloc, &surveyed_at(&*survey, index), entries, least)?;
+        let surveyed = surveyed_at(&*survey, index);
+        least = name_page(alloc, &mut ring, &surveyed, entries, least)?;
     }
     Ok(least)
 }

@@ -10,6 +10,7 @@ ghost use Rattle.ttx_witness.specs.search.Surveys.{survey_slots, surveyed_page, 
 ghost use Rattle.ttx_witness.specs.search.Surveys.{surveyed_limit, AreNamedIn};
 
 use crate::runs::one_item::search_item;
+use crate::runs::ring::Ring;
 use crate::runs::sure_starts::{Spread, SureRuns};
 use crate::search::survey::SurveyedPage;
 use crate::sent::page_items::{item_of, run_length};
@@ -87,6 +88,7 @@ fn add_entry(
 // The starts of the sure runs of an item, and how far apart these runs are.
 fn search_for(
     alloc: Global,
+    ring: &mut Ring,
     surveyed: &SurveyedPage,
     item: &Item,
     repeat: u8,
@@ -103,6 +105,7 @@ fn search_for(
     let period = survey.cycle.slots().len() as u32;
     search_item(
         alloc,
+        ring,
         survey.collected.sent(surveyed.index, *item),
         run_length(repeat, item),
         period,
@@ -112,6 +115,7 @@ fn search_for(
 // Names the starts of the sure runs of an item, and returns the least limit within which they follow one another.
 fn name_item(
     alloc: Global,
+    ring: &mut Ring,
     surveyed: &SurveyedPage,
     entries: &mut Vec<Entry>,
     item: &Item,
@@ -122,7 +126,13 @@ fn name_item(
 {
     ttx_page::laws::pages_keep_their_rules();
     let period = surveyed.survey.cycle.slots().len() as u32;
-    let SureRuns { starts, spread } = search_for(alloc, surveyed, item, surveyed.survey.repeat)?;
+    let SureRuns { starts, spread } = search_for(
+        alloc,
+        ring,
+        surveyed,
+        item,
+        surveyed.survey.repeat,
+    )?;
     add_entry(entries, surveyed.page.id(), *item, starts)?;
     Ok(limit_of(period, spread))
 }
@@ -130,6 +140,7 @@ fn name_item(
 // The least limit within which the sure runs of an item follow one another.
 fn item_limit(
     alloc: Global,
+    ring: &mut Ring,
     surveyed: &SurveyedPage,
     item: &Item,
     repeat: u8,
@@ -140,22 +151,27 @@ fn item_limit(
     ensures small { IfOk result (λ least. (limit : ℕ) → least ≡ Some limit → limit ≤ 655360) }
 {
     let period = surveyed.survey.cycle.slots().len() as u32;
-    let SureRuns { starts: _, spread } = search_for(alloc, surveyed, item, repeat)?;
+    let SureRuns { starts: _, spread } = search_for(alloc, ring, surveyed, item, repeat)?;
     Ok(limit_of(period, spread))
 }
 
 // The least limit within which the headers of the page follow one another.
-fn header_limit(alloc: Global, surveyed: &SurveyedPage) -> Result<Option<u64>, NoMemory>
+fn header_limit(
+    alloc: Global,
+    ring: &mut Ring,
+    surveyed: &SurveyedPage,
+) -> Result<Option<u64>, NoMemory>
     ensures least { IfOk result (λ least. least ≡ surveyed_least surveyed.now 1 TheHead) }
     ensures small { IfOk result (λ least. (limit : ℕ) → least ≡ Some limit → limit ≤ 655360) }
 {
     let head = Item::Head;
-    item_limit(alloc, surveyed, &head, 1)
+    item_limit(alloc, ring, surveyed, &head, 1)
 }
 
 /// The least limit for an item that a viewer sees. A receiver that holds the item already needs only the next header of the page.
 pub(crate) fn limit_seen(
     alloc: Global,
+    ring: &mut Ring,
     surveyed: &SurveyedPage,
     item: &Item,
 ) -> Result<Option<u64>, NoMemory>
@@ -163,9 +179,9 @@ pub(crate) fn limit_seen(
     ensures small { IfOk result (λ least. (limit : ℕ) → least ≡ Some limit → limit ≤ 655360) }
 {
     if is_due(surveyed.survey.class, surveyed.page, item) {
-        item_limit(alloc, surveyed, item, surveyed.survey.repeat)
+        item_limit(alloc, ring, surveyed, item, surveyed.survey.repeat)
     } else {
-        header_limit(alloc, surveyed)
+        header_limit(alloc, ring, surveyed)
     }
 }
 
@@ -173,6 +189,7 @@ pub(crate) fn limit_seen(
 // needs only the next header of the page.
 fn name_seen(
     alloc: Global,
+    ring: &mut Ring,
     surveyed: &SurveyedPage,
     entries: &mut Vec<Entry>,
     item: &Item,
@@ -182,15 +199,16 @@ fn name_seen(
     ensures least { IfOk result (λ least. least ≡ surveyed_limit surveyed.now item.now) }
 {
     if !is_due(surveyed.survey.class, surveyed.page, item) {
-        return header_limit(alloc, surveyed);
+        return header_limit(alloc, ring, surveyed);
     }
-    name_item(alloc, surveyed, entries, item)
+    name_item(alloc, ring, surveyed, entries, item)
 }
 
 /// Names the starts of the items of a page. `least` is the least limit that is enough for the pages before it. Returns the least
 /// limit that is enough for this page too.
 pub(crate) fn name_page(
     alloc: Global,
+    ring: &mut Ring,
     surveyed: &SurveyedPage,
     entries: &mut Vec<Entry>,
     least: Option<u64>,
@@ -202,7 +220,7 @@ pub(crate) fn name_page(
     for number in 0..26u8 {
         let item = item_of(number);
         if needed(surveyed.page, item) {
-            let limit = name_seen(alloc, surveyed, entries, &item)?;
+            let limit = name_seen(alloc, ring, surveyed, entries, &item)?;
             least = wider(least, limit);
         }
     }

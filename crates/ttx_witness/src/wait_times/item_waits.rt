@@ -9,6 +9,7 @@ ghost use Rattle.ttx_witness.specs.search.Surveys.{surveyed_page};
 ghost use Rattle.ttx_witness.specs.wait_times.ItemWaits.{AreItemWaits};
 ghost use Rattle.ttx_witness.specs.wait_times.SurveyedWaits.{IsItemWaitIn, AreItemsToldIn, AreItemWaitsIn};
 
+use crate::runs::ring::{Ring, empty_ring};
 use crate::search::start_names::limit_seen;
 use crate::search::survey::{Survey, SurveyedPage, surveyed_at};
 use crate::sent::collection::collect;
@@ -21,7 +22,12 @@ use ttx_cycle::Cycle;
 use ttx_page::{Class, Item, Page, needed};
 
 // How long a viewer waits for the item of the page.
-fn item_wait(alloc: Global, surveyed: &SurveyedPage, item: &Item) -> Result<OwnWait, NoMemory>
+fn item_wait(
+    alloc: Global,
+    ring: &mut Ring,
+    surveyed: &SurveyedPage,
+    item: &Item,
+) -> Result<OwnWait, NoMemory>
     requires seen { definitions.needed (surveyed_page surveyed.now) item.now ≡ true }
     ensures { IfOk result (λ wait. IsItemWaitIn surveyed.now item.now wait) }
 {
@@ -32,7 +38,7 @@ fn item_wait(alloc: Global, surveyed: &SurveyedPage, item: &Item) -> Result<OwnW
     crate::laws::cycle_laws::sure_starts_are_found();
     crate::laws::cycle_laws::least_limit_is_found();
     let survey = surveyed.survey;
-    match limit_seen(alloc, surveyed, item)? {
+    match limit_seen(alloc, ring, surveyed, item)? {
         Some(slots) => Ok(OwnWait::Least {
             fields: fields_for(slots, survey.lines),
         }),
@@ -46,11 +52,12 @@ fn item_wait(alloc: Global, surveyed: &SurveyedPage, item: &Item) -> Result<OwnW
 fn items_told(alloc: Global, surveyed: &SurveyedPage) -> Result<Vec<ItemWait>, NoMemory>
     ensures { IfOk result (λ told. AreItemsToldIn surveyed.now 26 told.items) }
 {
+    let mut ring = empty_ring(alloc, usize::from(surveyed.survey.repeat))?;
     let mut told = Vec::new(alloc);
     for number in 0..26u8 {
         let item = item_of(number);
         if needed(surveyed.page, item) {
-            let wait = item_wait(alloc, surveyed, &item)?;
+            let wait = item_wait(alloc, &mut ring, surveyed, &item)?;
             if told.push(ItemWait { item, wait }).is_err() {
                 return Err(NoMemory);
             }

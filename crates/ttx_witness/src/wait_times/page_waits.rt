@@ -12,6 +12,7 @@ ghost use Rattle.ttx_witness.specs.wait_times.PageWaits.{is_near, is_cut, AreLos
 ghost use Rattle.ttx_witness.specs.wait_times.SurveyedWaits.{IsWaitByLimitsIn, IsWaitIn, AreWaitsIn};
 
 use crate::faults::other_subpages::OtherSubpages;
+use crate::runs::ring::empty_ring;
 use crate::runs::transmissions::Transmission;
 use crate::search::start_names::limit_seen;
 use crate::search::survey::{Survey, SurveyedPage, surveyed_at};
@@ -82,12 +83,13 @@ fn longest_item(alloc: Global, surveyed: &SurveyedPage) -> Result<Wait, NoMemory
     ensures { IfOk result (λ wait. IsWaitByLimitsIn surveyed.now wait) }
 {
     let survey = surveyed.survey;
+    let mut ring = empty_ring(alloc, usize::from(survey.repeat))?;
     let mut fields = 0;
     let mut longest = Item::Links;
     for number in 0..26u8 {
         let item = item_of(number);
         if needed(surveyed.page, item) {
-            let Some(slots) = limit_seen(alloc, surveyed, &item)? else {
+            let Some(slots) = limit_seen(alloc, &mut ring, surveyed, &item)? else {
                 let losses = losses_of(survey.collected.sent(surveyed.index, item), survey.lines);
                 return Ok(Wait::Unsure { item, losses });
             };

@@ -8,10 +8,10 @@ use Rattle.ttx_files.proofs.KnownFiles.{known_with}
 use Rattle.ttx_files.proofs.RefusedInputs.{after_packets}
 use Rattle.ttx_files.proofs.readers.read_inputs.Goals as goal
 
-pub returns-in-Err-read_texts-clause-bytes : goal.returns-in-Err-read_texts-clause-bytes
-returns-in-Err-read_texts-clause-bytes g c =
+pub returns-in-Err-clause-bytes : goal.returns-in-Err-clause-bytes
+returns-in-Err-clause-bytes g c =
     known_with (g.A.Read.remaining (inner_of c.args.cycle.now))
     (g.B.Read.remaining (inner_of c.args.service.now) ∷ g.C.Read.remaining (inner_of c.args.certificate.now) ∷ [])
-    (λ a. IsPacketFile a (slots_of c.in-Ok.cycle)) (λ xs. IsRefusedText (first xs) (second xs) c.in-Err-read_texts.fault)
-    (λ xs. IsRefused (first xs) (second xs) (third xs) c.in-Err-read_texts.fault) c.in-Ok.ensures.bytes c.in-Err-read_texts.ensures.bytes
-    (λ a xs is h. after_packets (slots_of c.in-Ok.cycle) a (first xs) (second xs) c.in-Err-read_texts.fault is h)
+    (λ a. IsPacketFile a (slots_of c.in_ok-cycle.cycle)) (λ xs. IsRefusedText (first xs) (second xs) c.in-Err.fault)
+    (λ xs. IsRefused (first xs) (second xs) (third xs) c.in-Err.fault) c.in_ok-cycle.ensures.bytes c.in-Err.ensures.bytes
+    (λ a xs is h. after_packets (slots_of c.in_ok-cycle.cycle) a (first xs) (second xs) c.in-Err.fault is h)

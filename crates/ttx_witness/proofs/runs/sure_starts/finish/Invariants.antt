@@ -7,10 +7,10 @@ use Rattle.ttx_witness.proofs.runs.sure_starts.finish.Given as goal
 
 abbrev pub invariant-loop-i : goal.invariant-loop-i
 invariant-loop-i l = record {
-  repeat : l.search.ring.window.capacity ≡ l.initial.search.ring.window.capacity;
-  some : 1 ≤ length l.search.ring.firsts.items;
-  firsts : length l.search.ring.firsts.items ≤ 7;
-  small : AllByRecursion (IsWithin ((l.i + 1) * 65536)) l.search.ring.firsts.items;
-  round : (k : ℕ) (ts : List Transmission) → IsSearch k ts l.initial.search → (rs : List Run)
-      × IsRound k l.period l.i ts rs (held_in_ring l.search.ring) × IsFound rs l.search.starts.items l.search.spread;
+  repeat : l.ring.window.capacity ≡ l.initial.ring.window.capacity;
+  some : 1 ≤ length l.ring.firsts.items;
+  firsts : length l.ring.firsts.items ≤ 7;
+  small : AllByRecursion (IsWithin ((l.i + 1) * 65536)) l.ring.firsts.items;
+  round : (k : ℕ) (ts : List Transmission) → IsSearch k ts l.initial.ring l.initial.found → (rs : List Run)
+      × IsRound k l.period l.i ts rs (held_in_ring l.ring) × IsFound rs l.found.starts.items l.found.spread;
 }

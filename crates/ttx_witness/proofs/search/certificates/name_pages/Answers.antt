@@ -14,11 +14,11 @@ loop-index-preserved c = record {
   named =
       let old = c.loop-index.entries.items in let new = c.name_page.new.entries.items in
       let before = c.loop-index.invariant.named in
-      let named = subst (λ n. AreNamedIn c.surveyed_at.result.survey.now
-      (26 * n) old c.loop-index.least → AreNamedIn c.surveyed_at.result.survey.now (26 * (n + 1)) new c.in_ok-least.least)
-      c.surveyed_at.ensures.index c.in_ok-least.ensures in
+      let named = subst (λ n. AreNamedIn c.surveyed_at-surveyed.result.survey.now
+      (26 * n) old c.loop-index.least → AreNamedIn c.surveyed_at-surveyed.result.survey.now (26 * (n + 1)) new c.in_ok-least.least)
+      c.surveyed_at-surveyed.ensures.index c.in_ok-least.ensures in
       subst (λ v. AreNamedIn v (26 * c.loop-index.index) old c.loop-index.least → AreNamedIn v
-      (26 * (c.loop-index.index + 1)) new c.in_ok-least.least) c.surveyed_at.ensures.survey named before;
+      (26 * (c.loop-index.index + 1)) new c.in_ok-least.least) c.surveyed_at-surveyed.ensures.survey named before;
 }
 
 pub returns : goal.returns
