@@ -33,6 +33,7 @@ import threading
 from dataclasses import dataclass
 
 RECORD = pathlib.Path("tools/edits.tsv")
+QUICK_RT = pathlib.Path(__file__).resolve().parent / "quick_rt.py"
 HEAD = ["crate", "edit", "heading", "body", "sources", "verdict", "function", "how"]
 PARTS = ("src", "specs", "proofs")
 COMMENTS = {".rt": "//", ".antt": "--"}
@@ -216,18 +217,21 @@ class Room:
             shutil.copy2(it, self.folder / it)
         for it in names:
             if it != name:
-                self.lend(it)
+                self.lend(it, "rlib")
+        self.lend(name, "incremental")
 
-    def lend(self, name):
-        """Gives the room a library that a check of the repository built, if there is one. rt looks whether it is of these sources."""
-        built = pathlib.Path("crates", name, "out", "rlib")
-        lent = self.folder / built
-        if built.is_dir() and not lent.exists():
-            shutil.copytree(built, lent, copy_function=os.link)
+    def lend(self, name, part):
+        """Gives the room what a check of the repository kept of a crate, if there is any: its library, or its proofs. rt looks whether
+        they are of these sources, and writes new files where they are not."""
+        kept = pathlib.Path("crates", name, "out", part)
+        lent = self.folder / kept
+        if kept.is_dir():
+            shutil.rmtree(lent, ignore_errors=True)
+            shutil.copytree(kept, lent, copy_function=os.link)
 
     def check(self):
         """The status of a check of the crate, and its output."""
-        words = ["nice", "-n", "5", "rt", "check", "--jobs", "1"]
+        words = ["nice", "-n", "5", sys.executable, QUICK_RT, "check", "--jobs", "1"]
         ran = subprocess.run(words, cwd=self.crate, stdout=subprocess.PIPE, stderr=subprocess.STDOUT, text=True, errors="replace", check=False)
         return ran.returncode, ran.stdout
 
@@ -392,8 +396,10 @@ def main():
         finally:
             rooms.append(room)
 
+    # the largest crates first, so that none of them is left to the end
+    largest_first = sorted({body.crate for body in stale}, key=lambda name: -sum(it.stat().st_size for it in sources([name])))
     with concurrent.futures.ThreadPoolExecutor(words.jobs) as pool:
-        failed = sum(pool.map(work, dict.fromkeys(body.crate for body in stale)))
+        failed = sum(pool.map(work, largest_first))
     shutil.rmtree(top, ignore_errors=True)
     weak = [row for body in every if (row := record.rows.get(body.key)) and row[5] not in ENOUGH]
     print(f"edits: {len(every)} wrong bodies, {len(stale)} tried now, {len(weak) + len(wrong)} failed")

@@ -1,0 +1,53 @@
+#!/usr/bin/env python3
+"""Runs rt, but reckons the checksum of a crate once a call: quick_rt.py WORDS..
+
+Before a check, rt reckons the checksum of each crate below anew for each path of crates.txt that leads down to it: for ttx_tool these are
+some hundred thousand paths, which take longer than the check. The checksums here are the same. The gate does not use this script. Where
+the kit's rt has another form than this script knows, it runs rt as it is.
+"""
+import os
+import pathlib
+import shutil
+import sys
+import threading
+
+LOADED = "rtlib = load()\n"
+
+
+def reckon_once(crate):
+    """Makes the two walks of a class of crates remember: `below` for good, `stamp` for one outermost call."""
+    below, stamp = crate.below, crate.stamp
+    local = threading.local()
+
+    def below_once(self):
+        if "found_below" not in self.__dict__:
+            self.found_below = below(self)
+        return list(self.found_below)
+
+    def stamp_once(self):
+        is_outermost = not getattr(local, "known", None)
+        if is_outermost:
+            local.known = {"": ""}
+        try:
+            if self.folder not in local.known:
+                local.known[self.folder] = stamp(self)
+            return local.known[self.folder]
+        finally:
+            if is_outermost:
+                local.known = None
+
+    crate.below, crate.stamp = below_once, stamp_once
+
+
+def main():
+    kit = os.path.realpath(shutil.which("rt") or "rt")
+    text = pathlib.Path(kit).read_text(errors="replace") if os.path.isfile(kit) else ""
+    if text.count(LOADED) != 1:
+        os.execvp("rt", ["rt", *sys.argv[1:]])
+    sys.argv[0] = kit
+    names = {"__name__": "__main__", "__file__": kit, "reckon_once": reckon_once}
+    exec(compile(text.replace(LOADED, f"{LOADED}reckon_once(rtlib.Crate)\n"), kit, "exec"), names)
+
+
+if __name__ == "__main__":
+    main()
