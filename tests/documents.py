@@ -292,7 +292,17 @@ def crates():
 def listed(document, start):
     """The names of crates in the line of a document that begins or goes on with these words."""
     line = next((line for line in (TOP / document).read_text().splitlines() if start in line), "")
-    return {name for name in re.findall(r"[a-z_0-9]+", line.partition(start)[2])}
+    return {name for name in re.findall(r"[a-z_0-9]+(?![a-z_0-9]|::)", line.partition(start)[2])}
+
+
+def wrong_modules(used):
+    """Modules that README.md says no command uses, and that do not stand in their crate, or are named in one of these other crates."""
+    line = next(line for line in (TOP / "README.md").read_text().splitlines() if "used by no command yet**" in line)
+    for crate, module in re.findall(r"`(ttx_\w+)::(\w+)`", line):
+        stands = (TOP / "crates" / crate / "src" / f"{module}.rt").is_file()
+        files = [file for name in used - {crate} for file in (TOP / "crates" / name / "src").rglob("*.rt")]
+        if not stands or any(f"{crate}::{module}" in file.read_text() for file in files):
+            yield f"README.md: whether a command uses {crate}::{module}"
 
 
 def wrong_crates():
@@ -308,6 +318,7 @@ def wrong_crates():
     unused = set(stands) - used - {"ttx_tests"}
     said = {name for name in listed("README.md", "used by no command yet**") if name.startswith("ttx_")}
     yield from (f"README.md: whether a command uses {name}" for name in sorted(said ^ unused))
+    yield from wrong_modules(used)
     indexed = {crate for crate, _, _ in index_rows((TOP / "docs/CONTRACTS.md").read_text())}
     yield from (f"CONTRACTS.md has no row of {name}" for name in sorted(set(stands) - indexed - {"ttx", "ttx_tests"}))
     outside = {name for name in used if not name.startswith("ttx")}

@@ -8,3 +8,4 @@ pub mod Ticks
 pub mod Steps
 pub mod Listings
 pub mod Laws
+pub mod TextNewsrooms

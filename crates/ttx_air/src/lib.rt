@@ -1,4 +1,5 @@
-//! A service on the air: an edition that a newsroom hands out takes over if the change serves the receivers; the log says what happened.
+//! A service on the air: an edition that a newsroom hands out takes over if the change serves the receivers, and the log says what happened;
+//! and a newsroom over the text of a service, by which each new text is made an edition and handed out once.
 #![tactic(auto)]
 
 mod airing;
@@ -13,8 +14,11 @@ mod log;
 mod missing_pages;
 mod newsroom;
 mod period_end;
+mod press;
 mod reasons;
+mod sources;
 mod station;
+mod text_newsroom;
 mod verdicts;
 
 pub use airing::air;
@@ -24,3 +28,6 @@ pub use faults::AirFault;
 pub use listed::Listed;
 pub use log::Outputs;
 pub use newsroom::Newsroom;
+pub use press::{Press, PressFault};
+pub use sources::TextSource;
+pub use text_newsroom::{TextNewsroom, text_mark};

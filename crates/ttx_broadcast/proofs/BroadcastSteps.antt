@@ -6,8 +6,8 @@ use Rattle.ttx_air.specs.Newsrooms.{Candidate}
 use Rattle.ttx_air.specs.declared.faults.AirFault.{AirFault}
 use Rattle.ttx_air.specs.declared.faults.AirFault.TheVariants as air
 use Rattle.ttx_playout.specs.declared.faults.StartFault.TheVariants as start
-use Rattle.ttx_newsroom.specs.TextNewsrooms.{Reading, IsNew}
-use Rattle.ttx_newsroom.specs.declared.text_newsroom.TextNewsroom.{TextNewsroom}
+use Rattle.ttx_air.specs.TextNewsrooms.{Reading, IsNew}
+use Rattle.ttx_air.specs.declared.text_newsroom.TextNewsroom.{TextNewsroom}
 use Rattle.ttx_press.specs.declared.house.House.{House}
 use Rattle.ttx_press.specs.Openings.{IsOpening}
 use Rattle.ttx_press.specs.Presses.{text_gives}

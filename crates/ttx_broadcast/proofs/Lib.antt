@@ -1,2 +1,6 @@
 mod PossibleEndings
 mod BroadcastSteps
+mod DueRecords
+mod ReplaySteps
+mod ReplayedEndings
+mod ReplayedSlots

@@ -17,13 +17,13 @@ use Rattle.ttx_air.specs.declared.faults.AirFault.TheVariants as air
 use Rattle.ttx_air.specs.declared.log.Outputs.{Outputs}
 use Rattle.ttx_air.specs.Newsrooms.{Candidate, candidate_of}
 use Rattle.ttx_air.specs.Airings.{Written, written_of, Logs, scene, Airtime, Airs}
-use Rattle.ttx_newsroom.specs.TextNewsrooms.{Reading, IsNew}
-use Rattle.ttx_newsroom.specs.declared.text_newsroom.TextNewsroom.{TextNewsroom}
+use Rattle.ttx_air.specs.TextNewsrooms.{Reading, IsNew}
+use Rattle.ttx_air.specs.declared.text_newsroom.TextNewsroom.{TextNewsroom}
 use Rattle.ttx_press.specs.declared.demand.Demand.{Demand}
 use Rattle.ttx_press.specs.declared.house.House.{House}
 use Rattle.ttx_playout.specs.declared.faults.StartFault.TheVariants as start
-use Rattle.ttx_newsroom.specs.declared.press.PressFault.{PressFault}
-use Rattle.ttx_newsroom.specs.declared.press.PressFault.TheVariants as press
+use Rattle.ttx_air.specs.declared.press.PressFault.{PressFault}
+use Rattle.ttx_air.specs.declared.press.PressFault.TheVariants as press
 use Rattle.ttx_press.specs.declared.opened_air.Opening.{Opening}
 use Rattle.ttx_press.specs.Openings.{IsOpening, IsNoOpening}
 use Rattle.ttx_press.specs.Presses.{text_gives}

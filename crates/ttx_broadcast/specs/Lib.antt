@@ -1,2 +1,9 @@
 pub mod Settings
 pub mod Broadcasts
+pub mod LogNewsrooms
+pub mod Comparing
+pub mod Replays
+pub mod ReplayLines
+pub mod Beginnings
+pub mod Recordings
+pub mod Laws

@@ -3,7 +3,7 @@ use Rattle.std.proofs.Common.{◌≡◌, ◌∙◌, ℕ, ◌*◌, Bool, true, fa
 use Rattle.sha2.specs.Sha256.{sha256}
 use Rattle.ttx_air.specs.Newsrooms.{Candidate}
 use Rattle.ttx_certificate.specs.Entries.{CertificateFields, certificate_at}
-use Rattle.ttx_newsroom.specs.TextNewsrooms.{mark_of}
+use Rattle.ttx_air.specs.TextNewsrooms.{mark_of}
 use Rattle.ttx_page.specs.declared.class.Class.TheVariants.{Any}
 use Rattle.ttx_source.specs.Promises.{PromiseFields}
 use Rattle.ttx_source.specs.Services.{ServiceFields, pages_of}

@@ -11,8 +11,8 @@ use Rattle.ttx_air.specs.Laws.{EditionsAreTaken}
 use Rattle.ttx_change.specs.OldOrNew.{EndsWhole}
 use Rattle.ttx_change.specs.Scheduled.{HandsOverWhole, SchedulesAreWhole}
 use Rattle.ttx_change.specs.declared.verdict.LateSplice.TheVariants.{Yes}
-use Rattle.ttx_newsroom.specs.TextNewsrooms.{Reading, Made, Printed, Spoilt, Short, mark_of, lacking, news_made, Tries, IsUnread, IsRead, FindsBy, Looks}
-use Rattle.ttx_newsroom.specs.declared.text_newsroom.TextNewsroom.{TextNewsroom}
+use Rattle.ttx_air.specs.TextNewsrooms.{Reading, Made, Printed, Spoilt, Short, mark_of, lacking, news_made, Tries, IsUnread, IsRead, FindsBy, Looks}
+use Rattle.ttx_air.specs.declared.text_newsroom.TextNewsroom.{TextNewsroom}
 use Rattle.ttx_playout.specs.Schedules.{Edition, Showing, edition_at, one_more, taken, change}
 use Rattle.ttx_press.specs.declared.house.House.{House}
 use Rattle.ttx_press.specs.Successors.{Leaves}

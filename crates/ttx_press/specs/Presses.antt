@@ -12,8 +12,8 @@ use Rattle.ttx_change.specs.LateSpliceLines.{late_splice_line}
 use Rattle.ttx_change.specs.WholeChanges.{IsNotOpen}
 use Rattle.ttx_change.specs.declared.verdict.LateSplice.{LateSplice}
 use Rattle.ttx_change.specs.declared.verdict.LateSplice.TheVariants.{Yes}
-use Rattle.ttx_newsroom.specs.TextNewsrooms.{Reading, Made, Printed, Spoilt, Short, mark_of, Looks}
-use Rattle.ttx_newsroom.specs.declared.text_newsroom.TextNewsroom.{TextNewsroom}
+use Rattle.ttx_air.specs.TextNewsrooms.{Reading, Made, Printed, Spoilt, Short, mark_of, Looks}
+use Rattle.ttx_air.specs.declared.text_newsroom.TextNewsroom.{TextNewsroom}
 use Rattle.ttx_playout.specs.Schedules.{Edition}
 use Rattle.ttx_press.specs.Editions.{IsPrinted, IsSpoilt}
 use Rattle.ttx_press.specs.Successors.{Leaves, Succeeds}

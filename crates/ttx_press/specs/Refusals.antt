@@ -15,8 +15,8 @@ use Rattle.ttx_certificate.specs.Entries.{CertificateFields}
 use Rattle.ttx_certify.specs.declared.verdict.Verdict.TheVariants.{No}
 use Rattle.ttx_check.specs.Reports.{IsServiceReport}
 use Rattle.ttx_deadline.specs.Deadlines.{IsFoundWith}
-use Rattle.ttx_newsroom.specs.declared.press.PressFault.{PressFault}
-use Rattle.ttx_newsroom.specs.declared.press.PressFault.TheVariants.{Refused, NoMemory}
+use Rattle.ttx_air.specs.declared.press.PressFault.{PressFault}
+use Rattle.ttx_air.specs.declared.press.PressFault.TheVariants.{Refused, NoMemory}
 use Rattle.ttx_page.specs.declared.class.Class.TheVariants.{Any}
 use Rattle.ttx_plan.specs.Blocks.{length_bound}
 use Rattle.ttx_plan.specs.Carries.{blocks_sent}

@@ -10,8 +10,8 @@ use Rattle.ttx_air.specs.Airings.{Scene, Aired}
 use Rattle.ttx_change.specs.OldOrNew.{SendsNumber, HasEnded}
 use Rattle.ttx_change.specs.Scheduled.{lists_through}
 use Rattle.ttx_late.specs.LateReceivers.{LateMemory}
-use Rattle.ttx_newsroom.specs.TextNewsrooms.{Reading}
-use Rattle.ttx_newsroom.specs.declared.text_newsroom.TextNewsroom.{TextNewsroom}
+use Rattle.ttx_air.specs.TextNewsrooms.{Reading}
+use Rattle.ttx_air.specs.declared.text_newsroom.TextNewsroom.{TextNewsroom}
 use Rattle.ttx_page.specs.declared.class.Class.{Class}
 use Rattle.ttx_playout.specs.Schedules.{Edition, Showing, sent}
 use Rattle.ttx_press.specs.declared.house.House.{House}

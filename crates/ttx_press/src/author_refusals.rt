@@ -12,10 +12,10 @@ ghost use Rattle.ttx_press.specs.Refusals.{Says};
 use crate::refusals::refused;
 use std::alloc::{AllocError, Global};
 use toml::Table;
+use ttx_air::PressFault;
 use ttx_check::refusals::push_words;
 use ttx_check::spots::spot_of;
 use ttx_desk::{ComposeFault, Mistake, mistake_place, push_fault, service_of};
-use ttx_newsroom::PressFault;
 use ttx_places::{place_of, position_of};
 use ttx_source::{SourceError, SourceFault, read_document};
 

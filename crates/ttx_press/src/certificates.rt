@@ -16,9 +16,9 @@ use crate::planned_service::{PlannedService, refused_late};
 use crate::slow_pages::slow_pages;
 use crate::terms::asked_of;
 use std::alloc::Global;
+use ttx_air::PressFault;
 use ttx_certify::Verdict;
 use ttx_deadline::find_with;
-use ttx_newsroom::PressFault;
 use ttx_page::Class;
 use ttx_witness::{Certificate, NoMemory, PageWait, waits};
 

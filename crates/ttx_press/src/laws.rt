@@ -3,7 +3,7 @@
 ghost use Rattle.ttx_press.specs.Turns.{TurnsSendTheSame};
 ghost use Rattle.ttx_press.specs.Whole.{AiringsAreWhole};
 
-use ttx_newsroom::TextSource;
+use ttx_air::TextSource;
 
 /// What is sent of a service for late receivers while its author changes it is never mixed: a receiver that shows a page only where it ends shows
 /// a page of one edition, whole, however often the pages change.

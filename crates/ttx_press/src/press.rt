@@ -13,8 +13,8 @@ use crate::printed_edition::printed;
 use crate::refusals::refused_line;
 use crate::successor::successor;
 use std::alloc::Global;
+use ttx_air::{Press, PressFault};
 use ttx_change::{LateSplice, late_splice_line};
-use ttx_newsroom::{Press, PressFault};
 use ttx_playout::Edition;
 
 // The refusal of an edition at whose begin this would be left open.

@@ -11,7 +11,7 @@ use crate::house::House;
 use crate::planned_service::{PlannedService, planned};
 use crate::script::read;
 use std::alloc::Global;
-use ttx_newsroom::PressFault;
+use ttx_air::PressFault;
 use ttx_playout::Edition;
 
 /// The edition of a text: the text is read with its promises, planned, and certified for receivers of class any with the deadline of the

@@ -4,8 +4,8 @@ ghost use Rattle.std.specs.Prelude.{◌≡◌, ◌++◌, ◌∷◌, [], false, I
 ghost use Rattle.ttx_press.specs.Refusals.{Says, IsCheckRefusalBy};
 
 use std::alloc::Global;
+use ttx_air::PressFault;
 use ttx_check::report;
-use ttx_newsroom::PressFault;
 
 /// A refusal with these words.
 pub fn refused(alloc: Global, words: &str) -> PressFault

@@ -10,9 +10,9 @@ ghost use Rattle.ttx_press.specs.Editions.{IsScriptBy, IsScript};
 use crate::author_refusals::refused_author;
 use crate::refusals::refused_text;
 use std::alloc::Global;
+use ttx_air::PressFault;
 use ttx_author_files::is_author_text;
 use ttx_desk::{ComposeFault, Composed, compose};
-use ttx_newsroom::PressFault;
 use ttx_source::{Promise, Service, SourceError, SourceFault, read_promises, read_service};
 
 // The name of an author's text in the first comment of its service text, which nobody sees.

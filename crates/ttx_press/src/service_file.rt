@@ -2,9 +2,9 @@
 
 use std::alloc::Global;
 use std::fs::{File, Files};
+use ttx_air::TextSource;
 use ttx_cycle::{Counted, TextFault};
 use ttx_files::read_text;
-use ttx_newsroom::TextSource;
 
 /// The text of a service in a file, which is opened anew each time: an author may write it again, or put another file in its place.
 #[derive(Drop)]

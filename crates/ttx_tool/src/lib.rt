@@ -14,7 +14,8 @@ mod views;
 pub use claims::Claim;
 pub use faults::{AirRefusal, CounterFileFault, ExtractionFault, ToolFault};
 pub use ttx_arguments::{Look, Order, ReceiverKind, Tuning, WordsFault, words};
-pub use ttx_broadcast::{BroadcastFault, LogCopy, Outputs, ServiceFile};
+pub use ttx_broadcast::{
+    BroadcastFault, LogCopy, Outputs, ServiceFile, begin_of, is_same_so_far, replay,
+};
 pub use ttx_failure::FailureForm;
 pub use ttx_files::TextFile;
-pub use ttx_replaying::{begin_of, is_same_so_far, replay};

@@ -4,7 +4,7 @@ ghost use Rattle.std.specs.Prelude.{◌≡◌, ◌∷◌, [], ◌++◌};
 ghost use Rattle.ttx_cycle.specs.Counters.{inner_of, faults_of};
 ghost use Rattle.ttx_files.specs.Answers.{IsUntouched};
 ghost use Rattle.ttx_files.specs.Devices.{output};
-ghost use Rattle.ttx_replaying.specs.ReplayLines.{outcome_text, outcome_status, log_text};
+ghost use Rattle.ttx_broadcast.specs.ReplayLines.{outcome_text, outcome_status, log_text};
 ghost use Rattle.ttx_tool.specs.Devices.{is_tool_write, Fails};
 ghost use Rattle.ttx_tool.specs.ReplayAir.{log_status};
 ghost use Rattle.ttx_tool.specs.Reports.{Reports};
@@ -13,10 +13,10 @@ use super::reports::write_text;
 use crate::faults::ToolFault;
 use std::alloc::Global;
 use std::io::Write;
+use ttx_broadcast::{ReplayFault, log_line, outcome_line, outcome_status};
 use ttx_cycle::Counted;
 use ttx_files::FilesFault;
 use ttx_logbook::LogFault;
-use ttx_replaying::{ReplayFault, log_line, outcome_line, outcome_status};
 
 /// Writes the line that says how a replay ended, whose own log is the same as the given one as far as both go, or another one; returns the status
 /// of the program.

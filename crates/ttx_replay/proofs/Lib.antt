@@ -1,2 +1,0 @@
-mod ReplayedEndings
-mod ReplayedSlots

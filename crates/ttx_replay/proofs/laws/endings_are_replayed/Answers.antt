@@ -1,5 +1,0 @@
-use Rattle.ttx_replay.proofs.ReplayedEndings as L
-use Rattle.ttx_replay.proofs.laws.endings_are_replayed.Goals as goal
-
-pub returns : goal.returns
-returns c = L.endings_are_replayed c.endings_are_decided.ensures

@@ -1,4 +1,0 @@
-pub mod Comparing
-pub mod Replays
-pub mod ReplayLines
-pub mod Beginnings
