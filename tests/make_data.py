@@ -176,6 +176,11 @@ def block(mag):
     return [header(mag, 0), EMPTY, EMPTY, *[row(mag, r) for r in range(1, 24)], links(mag)]
 
 
+def short_block(mag, sub=0):
+    """The block of a page whose row 1 is A, in fields of two slots, for receivers that surely clear."""
+    return [header(mag, 0, sub), EMPTY, EMPTY, text_row(mag, 1, b"A")]
+
+
 def planned():
     """Planned cycles, laid out by hand."""
     one, one_links = suppressed(1, 1)
@@ -198,6 +203,11 @@ def planned():
             EMPTY, third_links, first_links, time_filling(2, 0), time_filling(1, 0), EMPTY,
         ],
         "planned-clearing.t42": [header(1, 0), EMPTY, EMPTY, time_filling(1)],
+        # page 200 in rounds 0 and 4, the subpages in rounds 1 and 5, and a time-filling header before a page number that comes again
+        "planned-all-options.t42": [
+            *short_block(2), *short_block(1, 1), time_filling(2), *short_block(2), time_filling(1), *short_block(1, 2),
+            time_filling(1), time_filling(2),
+        ],
     }
 
 
@@ -206,7 +216,10 @@ def services():
     page = '[[page]]\nnumber = "{}"\n'
     quiet = page + "suppress = true\ninhibit = true\n"
     serial = "lines = 2\nserial = true\n"
+    lettered = '[page.rows]\n1 = "A"\n'
     return {
+        "planned-all-options.toml": serial + page.format(100) + 'sub = "0001"\n' + lettered + page.format(100) + 'sub = "0002"\n' + lettered
+        + page.format(200) + "often = 2\n" + lettered,
         "planned-info.toml": serial + TEST_INFO + page.format(100),
         "planned-twice.toml": serial + page.format(100) + "often = 2\n" + page.format(200),
         "planned-spread.toml": serial + page.format(100) + "often = 2\n" + "".join(page.format(n) for n in (200, 300, 400, 500, 600)),
@@ -458,6 +471,7 @@ def certifying_texts():
         "class-any.cert": "ttx certificate 2\nclass any\nlines 2\nrepeat 1\ndeadline 2\n100/0000 head 0\n",
         "clearing-1.cert": clearing_certificate(1),
         "clearing-repeat-2.cert": clearing_certificate(4, 2),
+        "clearing-repeat-2-5.cert": clearing_certificate(5, 2),
         "clearing-base.cert": clearing_certificate(14),
         "clearing-no-entries.cert": clearing_certificate(2, entries=""),
         "clearing-no-entries-1.cert": clearing_certificate(1, entries=""),
@@ -572,7 +586,8 @@ def missed():
 
 
 def air_logs():
-    """The log of the air of base.toml for two fields; the same with another number of pages; and its beginning."""
+    """The log of the air of base.toml for two fields; the same with another number of pages; and its beginning. The log of another air of it:
+    with repeat 2 it needs 41 fields, and 14 more until the page ends, and shares 250 fields in this proportion."""
     digest = hashlib.sha256(BASE_TEXT.encode()).hexdigest()
     at = "2025-11-21T12:30:45+00:00"
     log = (
@@ -580,7 +595,13 @@ def air_logs():
         f"field 0 {at} on air {digest}: 1 page, deadline 250 fields (5.00 s), 28 slots\n"
         f"field 2 {at} end\n"
     )
-    return {"air.log": log, "air-other.log": log.replace("1 page", "2 pages"), "air-cut.log": log[: log.rindex("T")]}
+    local = "2025-11-22T00:30:00+01:00"
+    more = (
+        "air within 250 repeat 2 late spread lines 2 fields 1 at 61000/233000 ahead 3600\n"
+        f"field 0 {local} on air {digest}: 1 page, deadline 187 fields (3.74 s), 28 slots\n"
+        f"field 1 {local} end\n"
+    )
+    return {"air.log": log, "air-other.log": log.replace("1 page", "2 pages"), "air-cut.log": log[: log.rindex("T")], "air-all-options.log": more}
 
 
 def main():

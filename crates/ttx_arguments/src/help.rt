@@ -241,13 +241,13 @@ Statuses:
   3  fault: file, fault: read, fault: write, fault: memory
 
 What a counter-run means: the rules of the standard allow this receiver and this
-reception, and the page that it shows is wrong. So no certificate with these
-numbers is accepted. It does not mean that such a set exists, nor does it say
-how often reception is like that.
+reception, and the page that it shows is wrong. So no certificate of class any
+with these numbers is accepted. It does not mean that such a set exists, nor
+does it say how often reception is like that.
 What none means: if all pages are sent unchanged in clean slots, certify says
-yes to some certificate with these numbers; find writes one. It does not mean
-that certify says yes to CERT. If a page is not sent unchanged, or a slot is not
-clean, none does not tell whether any viewer sees a wrong page.";
+yes to some certificate of class any with these numbers; find writes one. It
+does not mean that certify says yes to CERT. If a page is not sent unchanged, or
+a slot is not clean, none does not tell whether any viewer sees a wrong page.";
 
 pub(crate) const REPLAY_MORE: &str =
     "Reads CYCLE, SERVICE and COUNTER, in this order, to their ends. If COUNTER is a
@@ -428,8 +428,9 @@ pub(crate) const WAIT_MORE: &str =
     "Reads CYCLE and SERVICE, in this order, to their ends. Writes a line for each
 page, in the order of SERVICE, one of
   PAGE F fields S s ITEM
-      F is the least deadline with which this page alone is certified; ITEM is
-      the first item that needs so many fields; S is F in seconds of 50 fields
+      F is the least deadline with which this page alone is certified, if no
+      slot is bad; ITEM is the first item that needs so many fields; S is F in
+      seconds of 50 fields
   PAGE never ITEM sent N near A cut B
       no deadline is enough: of the N packets of ITEM in a period, A come at
       most as many slots after their header as a field has lines, and B come
@@ -440,7 +441,8 @@ page, in the order of SERVICE, one of
 With --items, the line of a page that is sent unchanged is followed by a line
 for each item that a viewer sees, one of
   PAGE ITEM F fields S s
-      F is the least deadline with which this item alone is certified
+      F is the least deadline with which this item alone is certified, if no
+      slot is bad
   PAGE ITEM never sent N near A cut B
       no deadline is enough for it
 The last line is one of
@@ -620,8 +622,8 @@ pub(crate) const BOOK_MORE: &str =
     "Reads CYCLE to its end. OUT has an index, and each page as a picture with its
 links and its text; it needs no other file and no network. Typing three digits,
 or following a link, leads to a page. A page is shown as by a receiver that has
-received the cycle twice and missed nothing; concealed characters are not
-shown. A time-filling header is not a page.
+received the packets of the page twice and missed none; concealed characters
+are not shown. A time-filling header is not a page.
 
 Statuses:
   0  done

@@ -71,7 +71,8 @@ TellsAnswer slots pages w asked (Some c) file line status =
 TellsAnswer slots pages w asked None file line status =
     IsUnrefuted slots pages (certificate_at w) × (file ≡ []) × (line ≡ said_none asked.json) × (status ≡ 0)
 
--- Where all pages are sent unchanged in clean slots, there is a counter-run exactly where no certificate of these numbers is accepted.
+-- Where all pages are sent unchanged in clean slots, there is a counter-run exactly where no certificate of class any with these numbers is
+-- accepted.
 pub record IsRefutation (slots : List (List ℕ)) (service : ServiceFields) (w : CertificateFields) (asked : Asked) (file line : List ℕ) (status : ℕ)
     : Type 0 where
   pub class : w.class ≡ Any

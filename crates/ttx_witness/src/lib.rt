@@ -15,7 +15,7 @@
 //! - `find` names every start of a sure run. A further start never hurts, so its deadline is the least of any certificate with the same
 //!   class, lines and repeat count. To name starts for a blank item of class clearing is never better than to leave its entry out.
 //! - `judge_item` holds a window of transmissions in an `ArrayVec` and allocates nothing. The search of `find` holds a ring
-//!   (`circular_buffer`) as long as a run, which is made once and emptied before each item.
+//!   (`circular_buffer`) as long as a run. It is emptied before each item, and made anew only where the run's length changes.
 #![tactic(auto)]
 
 mod faults;
