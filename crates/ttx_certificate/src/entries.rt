@@ -6,8 +6,12 @@ ghost use Rattle.ttx_certificate.specs.ItemPlaces.{key_of};
 ghost use Rattle.ttx_certificate.specs.Entries.{IsEntry, entry_at, is_above, is_page_id, is_item, are_slots, are_starts, rises, place_of};
 
 use crate::item_numbers::item_number;
+use smallvec::SmallVec;
 use ttx_header::PageId;
 use ttx_page::Item;
+
+/// The starts of an item. Most items are sent a few times in a cycle, and so few starts need no allocation.
+pub type Starts = SmallVec<u32, 4>;
 
 /// The starts that are named for an item of a page. At least one start, each below 65,536, strictly rising; the page number
 /// isn't FF and the subcode isn't 3F7F.
@@ -16,7 +20,7 @@ pub struct Entry {
     page: PageId,
     item: Item,
     place: u32,
-    starts: Vec<u32>,
+    starts: Starts,
     ghost kept: { IsEntry (entry_at page item starts.items) },
     ghost placed: { place ≡ place_of page item },
 }
@@ -94,7 +98,7 @@ impl Entry {
     ghost use Rattle.ttx_certificate.specs.EntryViews.{entry_of};
 
     /// The entry of these fields, which keep the type's rules.
-    pub fn of(page: PageId, item: Item, starts: Vec<u32>) -> Entry
+    pub fn of(page: PageId, item: Item, starts: Starts) -> Entry
         requires page { is_page_id page ≡ true }
         requires starts { are_starts starts.items ≡ true }
         ensures { entry_of result ≡ entry_at page item starts.items }
@@ -109,7 +113,7 @@ impl Entry {
     }
 
     /// The entry of these fields. `None` if one of the type's rules fails.
-    pub fn new(page: PageId, item: Item, starts: Vec<u32>) -> Option<Entry>
+    pub fn new(page: PageId, item: Item, starts: Starts) -> Option<Entry>
         ensures some { IsSome result ↔ IsEntry (entry_at page item starts.items) }
         ensures fields { IfSome result (λ e. entry_of e ≡ entry_at page item starts.items) }
     {

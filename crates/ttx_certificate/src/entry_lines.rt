@@ -4,6 +4,7 @@ ghost use Rattle.std.specs.Prelude.{◌≡◌, ◌<◌, ◌∷◌, length, optio
 ghost use Rattle.ttx_certificate.specs.CertificateReading.{words_in, row_in, item_in, numbers_in, entry_in};
 ghost use Rattle.ttx_certificate.specs.WrittenEntries.{written_item, written_of, words_after};
 
+use crate::entries::Starts;
 use crate::line_words::cut_word;
 use crate::no_memory::NoMemory;
 use crate::written::{Written, WrittenItem};
@@ -51,10 +52,10 @@ fn item<'a>(rest: Option<&'a [u8]>) -> Option<(WrittenItem, Option<&'a [u8]>)>
 }
 
 // The numbers of the words. `None` if one is not a number.
-fn numbers(alloc: Global, text: &[u8]) -> Result<Option<Vec<u32>>, NoMemory>
+fn numbers(alloc: Global, text: &[u8]) -> Result<Option<Starts>, NoMemory>
     ensures { IfOk result (λ s. option_map (λ v. v.items) s ≡ numbers_in (words_in text.now)) }
 {
-    let mut numbers = Vec::new(alloc);
+    let mut numbers = Starts::new(alloc);
     let mut rest = Some(text);
     while let Some(text) = rest {
         let (word, more) = next_word(text);

@@ -18,7 +18,7 @@ mod written;
 
 pub use certificate_faults::CertFault;
 pub use certificates::Certificate;
-pub use entries::Entry;
+pub use entries::{Entry, Starts};
 pub use item_numbers::item_number;
 pub use limits::limit;
 pub use no_memory::NoMemory;

@@ -85,6 +85,7 @@ fn entry_in(alloc: Global, text: &[u8], line: usize, low: Option<u32>) -> Result
 
 // Line `line`, without its 0A, and what follows it.
 #[tactic(auto, using(crate::proofs::LineShapes::ended_line))]
+#[inline(always)]
 fn line_at(text: &[u8], line: usize) -> Result<(&[u8], &[u8]), CertFault>
     ensures value { outcome (λ p. (p.0.now, lines_in p.1.now)) result ≡ rule.line_at line (lines_in text.now) }
     ensures shorter { IfOk result (λ p. length p.1.now < length text.now) }

@@ -1,5 +1,7 @@
 //! Entries as they are written.
 
+use crate::entries::Starts;
+
 /// An item as it is written: the number of a row may be any below 10,000,000.
 #[derive(Clone, Copy)]
 pub(crate) enum WrittenItem {
@@ -15,5 +17,5 @@ pub(crate) struct Written {
     pub(crate) page: u8,
     pub(crate) sub: u16,
     pub(crate) item: WrittenItem,
-    pub(crate) starts: Vec<u32>,
+    pub(crate) starts: Starts,
 }

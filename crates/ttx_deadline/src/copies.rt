@@ -6,16 +6,12 @@ ghost use Rattle.ttx_certificate.specs.EntryViews.{entry_of, entries_of};
 ghost use Rattle.ttx_deadline.specs.Deadlines.{fields_with_deadline};
 
 use std::alloc::{AllocError, Global};
-use ttx_witness::{Certificate, Entry, NoMemory};
+use ttx_witness::{Certificate, Entry, NoMemory, Starts};
 
-fn copied_starts(alloc: Global, starts: &[u32]) -> Result<Vec<u32>, AllocError>
+fn copied_starts(alloc: Global, starts: &[u32]) -> Result<Starts, AllocError>
     ensures { IfOk result (λ copied. copied.items ≡ starts.now) }
 {
-    let mut copied = Vec::with_capacity(alloc, starts.len())?;
-    for start in starts {
-        copied.push(*start)?;
-    }
-    Ok(copied)
+    Starts::from_slice(alloc, starts)
 }
 
 fn copied(alloc: Global, entry: &Entry) -> Result<Entry, AllocError>

@@ -45,6 +45,7 @@ fn is_zero(bytes: &[u8]) -> bool
 }
 
 // Whether the slot is empty. The first byte of a packet is seldom zero, so it is tried first.
+#[inline(always)]
 fn is_empty_slot(bytes: &[u8; 42]) -> bool
     ensures { result ≡ is_empty bytes.now }
 {
@@ -87,6 +88,7 @@ fn packet_of<'a>(bytes: &'a [u8; 42], at: Address) -> Slot<'a>
 /// 1. 42 zero bytes are an empty slot. (A single zero byte would read as 1, with one bit corrected.)
 /// 2. The slot is unreadable if byte 0 or 1, one of bytes 2 to 9 of packet 0, or byte 2 of packet 27 is unreadable.
 /// 3. Otherwise the magazine and packet number give the kind, for packet 27 together with the designation in byte 2.
+#[inline(always)]
 #[tactic(auto, unfolding(crate::specs::Slots::kind_of))]
 pub fn slot_of<'a>(bytes: &'a [u8; 42]) -> Slot<'a>
     ensures { Lends result bytes.now }

@@ -3,14 +3,14 @@
 use std::test::Fail;
 use ttx_header::PageId;
 use ttx_page::{Class, Item};
-use ttx_witness::{Certificate, Entry, write_certificate};
+use ttx_witness::{Certificate, Entry, Starts, write_certificate};
 
 #[test]
 fn a_certificate_of_one_entry(rt: HostRuntime) -> Result<(), Fail> {
     let Some(id) = PageId::new(1, 0, 0) else {
         panic!(rt; "there is no page");
     };
-    let Some(entry) = Entry::new(id, Item::Head, Vec::from_slice(rt.alloc(), &[0, 28])?) else {
+    let Some(entry) = Entry::new(id, Item::Head, Starts::from_slice(rt.alloc(), &[0, 28])?) else {
         panic!(rt; "there is no entry");
     };
     let mut entries = Vec::new(rt.alloc());

@@ -46,8 +46,8 @@ pub use sent::packets::{header_in, heads_page, mine_after, row_in, sends};
 pub use sent::page_index::{PageIndex, index_of, place_of};
 pub use sent::page_items::{item_of, run_length};
 pub use ttx_certificate::{
-    CertFault, Certificate, Entry, NoMemory, certificate_laws, digit, limit, push_id, push_item,
-    push_numbers, read_certificate, write_certificate,
+    CertFault, Certificate, Entry, NoMemory, Starts, certificate_laws, digit, limit, push_id,
+    push_item, push_numbers, read_certificate, write_certificate,
 };
 pub use wait_times::item_waits::item_waits;
 pub use wait_times::page_waits::waits;

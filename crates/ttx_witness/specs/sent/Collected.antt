@@ -6,8 +6,8 @@
 --   IsItem, place_of_item   the items of a page, and the place where the transmissions of an item of a page are kept
 --   held, AreCollected      the list at a place; the lists are the transmissions of all items in the first slots of a period
 use Rattle.std.specs.Prelude.{◌≡◌, ℕ, ◌+◌, ◌-◌, ◌*◌, ◌<◌, Bool, false, ◌||◌, ◌==◌, List, [], slice_get, get_or, map, length, nat_eq}
-use Rattle.std.specs.Prelude.{Option, Some, None, Vec}
-use Rattle.std.specs.Global.{Global}
+use Rattle.std.specs.Prelude.{Option, Some, None}
+use Rattle.smallvec.specs.SmallVec.{SmallVec}
 use Rattle.ttx_header.specs.Ids.{Id, IsId, same_id}
 use Rattle.ttx_page.specs.Streams.{repeated}
 use Rattle.ttx_page.specs.declared.item.Item.{Item}
@@ -56,11 +56,11 @@ abbrev pub place_of_item : ℕ → Item → ℕ
 place_of_item i item = 26 * i + item_number item
 
 -- the list at a place
-abbrev pub held : List (Vec Transmission Global) → ℕ → List Transmission
+abbrev pub held : List (SmallVec Transmission) → ℕ → List Transmission
 held lists n = get_or (map (λ v. v.items) lists) n []
 
 -- the transmissions of all items of all pages in the first j slots of the period
-pub record AreCollected (ids : List Id) (before cycle : List (List ℕ)) (lines j : ℕ) (lists : List (Vec Transmission Global)) : Type 0 where
+pub record AreCollected (ids : List Id) (before cycle : List (List ℕ)) (lines j : ℕ) (lists : List (SmallVec Transmission)) : Type 0 where
   pub count : length lists ≡ 26 * length ids
   pub each : (i : ℕ) (id : Id) (item : Item) → slice_get ids i ≡ Some id → IsId id → IsItem item →
       held lists (place_of_item i item) ≡ sent_scan id lines item (repeated cycle) (entry_owner before id) j

@@ -172,6 +172,7 @@ fn are_links_right(page: &Page, slot: &[u8; 42]) -> bool
 }
 
 /// Whether what the slot sends differs from the page.
+#[inline(always)]
 pub fn is_wrong(page: &Page, check: &Check, slot: &[u8; 42]) -> bool
     ensures { IsTrue result ↔ IsWrong (page_of page.now) check.now slot.now }
 {

@@ -15,7 +15,7 @@ use crate::runs::transmissions::Transmission;
 use crate::runs::window::Recent;
 use arrayvec::ArrayVec;
 use std::alloc::Global;
-use ttx_certificate::NoMemory;
+use ttx_certificate::{NoMemory, Starts};
 
 // The state before the first transmission of an item whose runs have `repeat` transmissions.
 fn nothing_sent(repeat: usize) -> Recent
@@ -62,7 +62,7 @@ pub fn search_item(
 {
     begin(alloc, ring, repeat)?;
     let mut found = SureRuns {
-        starts: Vec::new(alloc),
+        starts: Starts::new(alloc),
         spread: None,
     };
     for i in 0..sent.len() {

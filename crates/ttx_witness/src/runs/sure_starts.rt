@@ -8,7 +8,7 @@ ghost use Rattle.ttx_witness.specs.runs.Tracks.{listed, IsSearch, IsWithin};
 
 use crate::runs::ring::{Ring, push, push_further};
 use crate::runs::transmissions::{Run, Transmission};
-use ttx_certificate::NoMemory;
+use ttx_certificate::{NoMemory, Starts};
 
 /// How far apart the sure runs are: the end of the first, the owner of the last, and the greatest distance in slots from an owner to
 /// the end of the next run.
@@ -22,7 +22,7 @@ pub struct Spread {
 /// The starts of all sure runs of an item, and how far apart these runs are.
 #[derive(Drop)]
 pub struct SureRuns {
-    pub starts: Vec<u32>,
+    pub starts: Starts,
     pub spread: Option<Spread>,
 }
 

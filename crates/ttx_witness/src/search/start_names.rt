@@ -15,7 +15,7 @@ use crate::runs::sure_starts::{Spread, SureRuns};
 use crate::search::survey::SurveyedPage;
 use crate::sent::page_items::{item_of, run_length};
 use std::alloc::Global;
-use ttx_certificate::{Entry, NoMemory};
+use ttx_certificate::{Entry, NoMemory, Starts};
 use ttx_header::PageId;
 use ttx_page::{Class, Item, Page, is_blank, needed};
 
@@ -69,7 +69,7 @@ fn add_entry(
     entries: &mut Vec<Entry>,
     page: PageId,
     item: Item,
-    starts: Vec<u32>,
+    starts: Starts,
 ) -> Result<(), NoMemory>
     requires page { is_page_id page ≡ true }
     requires slots { are_slots starts.items ≡ true }

@@ -10,7 +10,7 @@ ghost use Rattle.ttx_witness.specs.sent.AllSent.{AreAllSent, AreSentAfter};
 ghost use Rattle.ttx_witness.specs.sent.OneSlot.{placed_at};
 
 use crate::runs::transmissions::Transmission;
-use crate::sent::collected::Collected;
+use crate::sent::collected::{Collected, Transmissions};
 use crate::sent::one_slot::{Sent, place_in, sent_in_slot};
 use crate::sent::owners::{entry_owners, note_owner};
 use crate::sent::page_index::{PageIndex, index_of};
@@ -20,13 +20,13 @@ use ttx_cycle::Cycle;
 use ttx_page::{Item, Page};
 
 // `count` empty lists.
-fn empty_lists(alloc: Global, count: usize) -> Result<Vec<Vec<Transmission>>, NoMemory>
+fn empty_lists(alloc: Global, count: usize) -> Result<Vec<Transmissions>, NoMemory>
     ensures count { IfOk result (λ lists. length lists.items ≡ count) }
     ensures empty { IfOk result (λ lists. (n : ℕ) → held lists.items n ≡ []) }
 {
     let mut lists = Vec::new(alloc);
     for _i in 0..count {
-        if lists.push(Vec::new(alloc)).is_err() {
+        if lists.push(Transmissions::new(alloc)).is_err() {
             return Err(NoMemory);
         }
     }
@@ -34,7 +34,7 @@ fn empty_lists(alloc: Global, count: usize) -> Result<Vec<Vec<Transmission>>, No
 }
 
 // Appends what a slot sends to the list of its item.
-fn add_sent(lists: &mut Vec<Vec<Transmission>>, sent: Option<Sent>) -> Result<(), NoMemory>
+fn add_sent(lists: &mut Vec<Transmissions>, sent: Option<Sent>) -> Result<(), NoMemory>
     ensures count { length lists.new.items ≡ length lists.old.items }
     ensures added { OnOk result ((n : ℕ) → n < length lists.old.items → held lists.new.items n ≡ held lists.old.items n ++ placed_at n sent) }
 {
@@ -52,7 +52,7 @@ fn add_sent(lists: &mut Vec<Vec<Transmission>>, sent: Option<Sent>) -> Result<()
 
 // Fills the empty lists with the transmissions of the pages in the index.
 fn fill_lists(
-    lists: &mut Vec<Vec<Transmission>>,
+    lists: &mut Vec<Transmissions>,
     before: &Cycle,
     cycle: &Cycle,
     index: &PageIndex,

@@ -68,6 +68,7 @@ fn sent_head(page: Option<u32>, j: i32) -> Option<Sent>
 }
 
 /// What slot `j` sends of the items of the pages, with the owners before it. `lines` is the number of slots in a field.
+#[inline(always)]
 pub fn sent_in_slot(
     owners: &[Option<Owner>; 8],
     index: &PageIndex,

@@ -62,6 +62,7 @@ pub fn note_header(owners: &mut [Option<Owner>; 8], mag: usize, header: Owner, e
 }
 
 /// Notes slot `j` if it is a page header.
+#[inline(always)]
 pub fn note_owner(owners: &mut [Option<Owner>; 8], index: &PageIndex, slot: &[u8; 42], j: i32)
     ensures after { (ids : List Id) → IsIndex ids index.now → (i : ℕ) (id : Id) → slice_get ids i ≡ Some id → IsId id →
         owner_for owners.new i id ≡ owner_after id j (packet_of slot.now) (owner_for owners.old i id) }

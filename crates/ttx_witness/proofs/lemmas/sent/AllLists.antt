@@ -1,6 +1,6 @@
 -- The lists of all items of all pages, before the first slot and after the last.
-use Rattle.std.proofs.Common.{◌≡◌, ℕ, zero, suc, ◌+◌, ◌*◌, ◌/◌, ◌%◌, ◌<◌, ◌≤◌, ℤ, pos, List, [], ◌∷◌, ◌++◌, map, length, get_or, slice_get, Vec}
-use Rattle.std.proofs.Common.{Global, Option, Some, refl, sym, ap, ◌∙◌, subst, inl, inr, arith, mod-lt}
+use Rattle.std.proofs.Common.{◌≡◌, ℕ, zero, suc, ◌+◌, ◌*◌, ◌/◌, ◌%◌, ◌<◌, ◌≤◌, ℤ, pos, List, [], ◌∷◌, ◌++◌, map, length, get_or, slice_get}
+use Rattle.std.proofs.Common.{Option, Some, refl, sym, ap, ◌∙◌, subst, inl, inr, arith, mod-lt}
 use Rattle.std.specs.List.{All, AllByRecursion}
 use Rattle.std.proofs.lemmas.List.{length-map}
 use Rattle.std.proofs.lemmas.Option.{slice_get_cases}
@@ -14,6 +14,7 @@ use Rattle.ttx_page.specs.Streams.{Stream, repeated}
 use Rattle.ttx_page.specs.declared.page.Page.{Page as PageValue}
 use Rattle.ttx_page.specs.declared.item.Item.{Item}
 use Rattle.ttx_page.specs.declared.item.Item.TheVariants.{Head as TheHead, Row as TheRow, Links as TheLinks}
+use Rattle.smallvec.specs.SmallVec.{SmallVec}
 use Rattle.ttx_witness.specs.runs.Transmissions.{Transmission}
 use Rattle.ttx_witness.specs.runs.Tracks.{AreInOrder, IsWithin}
 use Rattle.ttx_witness.specs.sent.ItemTransmissions.{PageOwner, owner_after, owner_scan, sent_at, sent_scan, sent_after}
@@ -26,9 +27,9 @@ use Rattle.ttx_witness.proofs.lemmas.sent.FirstPeriod.{after_within, after_in_or
 use Rattle.ttx_witness.proofs.lemmas.sent.PageIndexes.{id_of_page}
 
 abbrev Lists : Type 0
-Lists = List (Vec Transmission Global)
+Lists = List (SmallVec Transmission)
 
-pub held_push : (vs : Lists) (v : Vec Transmission Global) → v.items ≡ [] → ((n : ℕ) → held vs n ≡ []) → (n : ℕ) → held (vs ++ v ∷ []) n ≡ []
+pub held_push : (vs : Lists) (v : SmallVec Transmission) → v.items ≡ [] → ((n : ℕ) → held vs n ≡ []) → (n : ℕ) → held (vs ++ v ∷ []) n ≡ []
 held_push [] v e h zero = e
 held_push [] v e h (suc n) = refl
 held_push (x ∷ vs) v e h zero = h zero
@@ -135,7 +136,7 @@ all_by_recursion P [] h = tt
 all_by_recursion P (x ∷ xs) h = (h zero x (omega arith), all_by_recursion P xs (λ k d lt. h (suc k) d (omega arith)))
 
 -- the list that is read at a place
-pub held_read : (vs : Lists) (i n : ℕ) (item : Item) (v : Vec Transmission Global) (ts : List Transmission) → ts ≡ v.items → n
+pub held_read : (vs : Lists) (i n : ℕ) (item : Item) (v : SmallVec Transmission) (ts : List Transmission) → ts ≡ v.items → n
     ≡ item_number item → IsItem item → i < length vs / 26 →
     v ≡ get_or vs (26 * i + n) v → ts ≡ held vs (place_of_item i item)
 held_read vs i n item v ts t e is below read =

@@ -6,4 +6,4 @@ pub of-requires-clause-page : goal.of-requires-clause-page
 of-requires-clause-page c = sym c.is_page_id.ensures.value ∙ c.if-is_page_id.true
 
 pub of-requires-clause-starts : goal.of-requires-clause-starts
-of-requires-clause-starts c = ap are_starts (sym c.as_slice.ensures.value) ∙ sym c.are_starts.ensures ∙ c.if-are_starts.true
+of-requires-clause-starts c = ap are_starts (sym c.as_slice.ensures) ∙ sym c.are_starts.ensures ∙ c.if-are_starts.true

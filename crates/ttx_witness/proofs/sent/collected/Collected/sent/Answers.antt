@@ -11,7 +11,7 @@ returns-clause-listed c = λ cycle pages lines p a at.
     let number : c.from-number.result ≡ item_number c.args.item = let e = c.from-number.ensures in let f = c.item_number.ensures.value
     in omega arith in
     held_read c.args.self.now.lists.items c.args.index c.from-number.result c.args.item c.index.result.now c.as_slice.result.now
-    c.as_slice.ensures.value number c.item_number.ensures.item below c.index.ensures
+    c.as_slice.ensures number c.item_number.ensures.item below c.index.ensures
     ∙ a.each c.args.index p c.args.item at c.item_number.ensures.item
 
 pub returns-clause-after : goal.returns-clause-after
@@ -20,7 +20,7 @@ returns-clause-after c = λ before cycle pages lines p a at.
     let number : c.from-number.result ≡ item_number c.args.item = let e = c.from-number.ensures in let f = c.item_number.ensures.value
     in omega arith in
     held_read c.args.self.now.lists.items c.args.index c.from-number.result c.args.item c.index.result.now c.as_slice.result.now
-    c.as_slice.ensures.value number c.item_number.ensures.item below c.index.ensures
+    c.as_slice.ensures number c.item_number.ensures.item below c.index.ensures
     ∙ a.each c.args.index p c.args.item at c.item_number.ensures.item
 
 pub returns-clause-within : goal.returns-clause-within
@@ -30,7 +30,7 @@ returns-clause-within c =
     in omega arith in
     subst (AllByRecursion (IsWithin 65536))
     (sym (held_read c.args.self.now.lists.items c.args.index c.from-number.result c.args.item c.index.result.now c.as_slice.result.now
-    c.as_slice.ensures.value number c.item_number.ensures.item below c.index.ensures))
+    c.as_slice.ensures number c.item_number.ensures.item below c.index.ensures))
     (all_by_recursion (IsWithin 65536) (held c.args.self.now.lists.items (place_of_item c.args.index c.args.item))
     (c.args.self.now.within (place_of_item c.args.index c.args.item)))
 
@@ -41,5 +41,5 @@ returns-clause-in_order c =
     in omega arith in
     subst AreInOrder
     (sym (held_read c.args.self.now.lists.items c.args.index c.from-number.result c.args.item c.index.result.now c.as_slice.result.now
-    c.as_slice.ensures.value number c.item_number.ensures.item below c.index.ensures))
+    c.as_slice.ensures number c.item_number.ensures.item below c.index.ensures))
     (c.args.self.now.in_order (place_of_item c.args.index c.args.item))
