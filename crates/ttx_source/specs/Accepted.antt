@@ -1,7 +1,10 @@
 -- What each key of a service definition takes, in words (profile).
 --
 --   takes_of                what a key takes
-use Rattle.std.specs.Prelude.{List, codes, ℕ}
+--   all_keys, accepted_at   all keys; what the one of a name takes
+use Rattle.std.specs.Prelude.{List, [], ◌∷◌, codes, ℕ, find, option_map, unwrap_or}
+use Rattle.std.specs.Str.{bytes_eq}
+use Rattle.ttx_source.specs.KeyFaults.{key_name}
 use Rattle.ttx_source.specs.declared.keys.Key.{Key}
 use Rattle.ttx_source.specs.declared.keys.Key.TheVariants as key
 
@@ -34,3 +37,11 @@ takes_of key.Row24 = codes "true or false"
 takes_of key.Crc = codes "a text of four hexadecimal digits"
 takes_of key.Within = codes "seconds from 0.02 to 20000, an integer or a float"
 takes_of key.Stays = codes "seconds from 0.02 to 20000, an integer or a float"
+
+unfoldable pub all_keys : List Key
+all_keys =
+    key.Lines ∷ key.Serial ∷ key.Info ∷ key.Designation ∷ key.Initial ∷ key.Network ∷ key.Halves ∷ key.Mjd ∷ key.Utc ∷ key.Text ∷ key.Page ∷ key.Number ∷ key.Sub ∷ key.Often
+    ∷ key.Option ∷ key.Newsflash ∷ key.Subtitle ∷ key.Suppress ∷ key.Update ∷ key.Interrupted ∷ key.Inhibit ∷ key.Head ∷ key.Rows ∷ key.Links ∷ key.Row24 ∷ key.Crc ∷ key.Within ∷ key.Stays ∷ []
+
+unfoldable pub accepted_at : List ℕ → List ℕ
+accepted_at name = unwrap_or (option_map takes_of (find (λ k. bytes_eq (key_name k) name) all_keys)) (codes "no value")

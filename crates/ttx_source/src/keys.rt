@@ -2,7 +2,7 @@
 
 ghost use Rattle.std.specs.Prelude.{◌≡◌};
 ghost use Rattle.ttx_source.specs.KeyFaults.{key_name};
-ghost use Rattle.ttx_source.specs.Accepted.{takes_of};
+ghost use Rattle.ttx_source.specs.Accepted.{takes_of, accepted_at};
 
 /// A key, by the last part of its name.
 #[derive(Clone, Copy)]
@@ -98,11 +98,11 @@ impl Key {
 }
 
 /// What the key of this name takes, in words for an error message.
-pub fn accepted(key: &str) -> &'static str {
-    for entry in KEYS.as_slice() {
-        if entry.0 == key {
-            return entry.1;
-        }
+pub fn accepted(key: &str) -> &'static str
+    ensures { result.now ≡ accepted_at key.now }
+{
+    match KEYS.iter().find(|entry| entry.0 == key) {
+        Some(entry) => entry.1,
+        None => "no value",
     }
-    "no value"
 }
