@@ -1,7 +1,11 @@
 -- What each key of a service definition takes, in words (profile).
 --
 --   takes_of                what a key takes
-use Rattle.std.specs.Prelude.{List, codes, ℕ}
+--   all_keys, key_table     all keys; their names, and what they take
+--   taken_in, accepted_at   what the key of a name takes
+use Rattle.std.specs.Prelude.{List, [], ◌∷◌, codes, ℕ, map, if◌then◌else◌}
+use Rattle.std.specs.Str.{bytes_eq}
+use Rattle.ttx_source.specs.KeyFaults.{key_name}
 use Rattle.ttx_source.specs.declared.keys.Key.{Key}
 use Rattle.ttx_source.specs.declared.keys.Key.TheVariants as key
 
@@ -34,3 +38,18 @@ takes_of key.Row24 = codes "true or false"
 takes_of key.Crc = codes "a text of four hexadecimal digits"
 takes_of key.Within = codes "seconds from 0.02 to 20000, an integer or a float"
 takes_of key.Stays = codes "seconds from 0.02 to 20000, an integer or a float"
+
+unfoldable pub all_keys : List Key
+all_keys =
+    key.Lines ∷ key.Serial ∷ key.Info ∷ key.Designation ∷ key.Initial ∷ key.Network ∷ key.Halves ∷ key.Mjd ∷ key.Utc ∷ key.Text ∷ key.Page ∷ key.Number ∷ key.Sub ∷ key.Often
+    ∷ key.Option ∷ key.Newsflash ∷ key.Subtitle ∷ key.Suppress ∷ key.Update ∷ key.Interrupted ∷ key.Inhibit ∷ key.Head ∷ key.Rows ∷ key.Links ∷ key.Row24 ∷ key.Crc ∷ key.Within ∷ key.Stays ∷ []
+
+unfoldable pub key_table : List (List ℕ × List ℕ)
+key_table = map (λ k. (key_name k, takes_of k)) all_keys
+
+abbrev pub taken_in : List (List ℕ × List ℕ) → List ℕ → List ℕ
+taken_in [] name = codes "no value"
+taken_in (key ∷ keys) name = if bytes_eq key.0 name then key.1 else taken_in keys name
+
+unfoldable pub accepted_at : List ℕ → List ℕ
+accepted_at name = taken_in key_table name

@@ -1,8 +1,8 @@
 //! The keys of a service definition.
 
-ghost use Rattle.std.specs.Prelude.{◌≡◌};
+ghost use Rattle.std.specs.Prelude.{◌≡◌, map};
 ghost use Rattle.ttx_source.specs.KeyFaults.{key_name};
-ghost use Rattle.ttx_source.specs.Accepted.{takes_of};
+ghost use Rattle.ttx_source.specs.Accepted.{takes_of, taken_in, accepted_at};
 
 /// A key, by the last part of its name.
 #[derive(Clone, Copy)]
@@ -97,12 +97,21 @@ impl Key {
     }
 }
 
-/// What the key of this name takes, in words for an error message.
-pub fn accepted(key: &str) -> &'static str {
-    for entry in KEYS.as_slice() {
-        if entry.0 == key {
-            return entry.1;
+// What the key of this name takes, of these names and words.
+fn taken_among(keys: &[(&'static str, &'static str)], name: &str) -> &'static str
+    ensures { result.now ≡ taken_in (map (λ k. (k.0.now, k.1.now)) keys.now) name.now }
+{
+    for key in keys {
+        if key.0 == name {
+            return key.1;
         }
     }
     "no value"
+}
+
+/// What the key of this name takes, in words for an error message.
+pub fn accepted(key: &str) -> &'static str
+    ensures { result.now ≡ accepted_at key.now }
+{
+    taken_among(KEYS.as_slice(), key)
 }
