@@ -12,7 +12,7 @@ tried alone, as are mutants of definitions, types and constants.
 
 Each result is written to tools/edits.tsv at once, one line for a mutant: the crate, the edit, the heading, the checksums of the mutant and
 of all that it is tried on (the sources of the crate and of those below it, without comments, and the logic), the verdict, the refused
-function, and how. A later run tries only mutants for which that file has no line with these checksums; --anew tries all. --stale tries
+function or lemma, and how. A later run tries only mutants for which that file has no line with these checksums; --anew tries all. --stale tries
 nothing, and lists the mutants without such a line.
 
 The status is 1 if a mutant is not refused for want of a proof, or if a heading does not name the functions that its mutant changes.
@@ -37,7 +37,7 @@ QUICK_RT = pathlib.Path(__file__).resolve().parent / "quick_rt.py"
 HEAD = ["crate", "edit", "heading", "body", "sources", "verdict", "function", "how"]
 PARTS = ("src", "specs", "proofs")
 COMMENTS = {".rt": "//", ".antt": "--"}
-ENOUGH = {"refused", "refused by an answer"}
+ENOUGH = {"refused", "refused by an answer", "refused by a lemma"}
 
 ITEM = re.compile(r"\s*(?:pub(?:\([a-z]+\))? )?(?:const |unsafe )?(?:fn|struct|enum|const|static|trait|type)\s+(\w+)")
 DEFINITION = re.compile(r"(?:pub )?(?:abbrev |unfoldable |record |data )*(?:pub )?(?!where\b|unfolding\b|use\b|mod\b|--)([^\s:{})]+)")
@@ -45,6 +45,7 @@ DEFINITION = re.compile(r"(?:pub )?(?:abbrev |unfoldable |record |data )*(?:pub 
 LACKING = re.compile(r"^fn \w+::(\S+): no proof: expected answers in \S+; (.*)$", re.M)
 NOT_PROVED = re.compile(r"^fn \w+::(\S+): not proved$", re.M)
 WRITTEN = re.compile(r"^(?:\./)?proofs/(\S+)/(?:Answers|Invariants|Proof)\.antt:\d+:\d+: error: (.*)", re.M)
+LEMMA = re.compile(r"^(?:\./)?proofs/(?!\S*/(?:Answers|Invariants|Proof)\.antt)\S+\.antt:\d+:\d+: error: `([^`]+)`: (.*)", re.M)
 NAME_GONE = re.compile(r"has no field|is not in scope|has no `|was not admitted")
 LIMIT = re.compile(r"antt ran out of|outgrew the memory limit|stopped at the step limit")
 
@@ -297,6 +298,10 @@ def verdict_of(body, status, told):
             return verdict, *mine[0]
     if lacking:
         return "refused", *lacking[0]
+    # a mutant of a definition leaves the functions as they are: what it refutes is a lemma about the definition
+    lemmas = [] if turned_functions(body) else [it for it in LEMMA.findall(told) if not NAME_GONE.search(it[1])]
+    if lemmas:
+        return "refused by a lemma", *lemmas[0]
     gone = [it for it in misfits if NAME_GONE.search(it[1])]
     first = next((it for it in told.split("\n") if ": error" in it), "")
     return ("names gone", *gone[0]) if gone else ("refused elsewhere", "", first)
