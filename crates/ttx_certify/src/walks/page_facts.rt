@@ -11,7 +11,7 @@ ghost use Rattle.ttx_certify.specs.walks.PageFacts.{Noted, next_head, heads_afte
 
 use crate::walks::numbered_slot::NumberedSlot;
 use ttx_page::Page;
-use ttx_witness::first_slots::{FirstSlots, after_slot};
+use ttx_witness::first_slots::{FirstSlots, note_item};
 use ttx_witness::one_slot::Sent;
 
 /// The first and the last header of a page, and the first header that the next one followed too late.
@@ -64,14 +64,12 @@ fn heads_after(heads: Option<Heads>, j: i32, limit: u32, sent: bool) -> Option<H
     }
 }
 
-// The facts after a slot that sends item `number` of the page.
-fn facts_after(facts: Facts, page: &Page, number: u8, slot: &NumberedSlot, limit: u32) -> Facts
-    ensures { Noted limit (page_of page.now) (λ item. item_number item == number) slot.now.bytes.now slot.now.at facts result }
+// Notes a slot that sends item `number` of the page.
+fn note_facts(facts: &mut Facts, page: &Page, number: u8, slot: &NumberedSlot, limit: u32)
+    ensures { Noted limit (page_of page.now) (λ item. item_number item == number) slot.now.bytes.now slot.now.at facts.old facts.new }
 {
-    Facts {
-        heads: heads_after(facts.heads, slot.at as i32, limit, 0 == number),
-        first: after_slot(facts.first, page, number, slot.bytes, slot.at),
-    }
+    facts.heads = heads_after(facts.heads, slot.at as i32, limit, 0 == number);
+    note_item(&mut facts.first, page, number, slot.bytes, slot.at);
 }
 
 /// Adds what a slot sends to the facts of its page.
@@ -92,7 +90,7 @@ pub fn note_sent(
     };
     let at = s.page as usize;
     if at < all.len() && at < pages.len() {
-        all[at] = facts_after(all[at], &pages[at], s.number, slot, limit);
+        note_facts(&mut all[at], &pages[at], s.number, slot, limit);
     }
 }
 

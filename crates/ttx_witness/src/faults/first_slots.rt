@@ -121,6 +121,17 @@ pub fn after_slot(
     }
 }
 
+/// Notes slot `at`, which sends item `number` of the page. Most slots send rows, and of a row only one field can change.
+pub fn note_item(first: &mut FirstSlots, page: &Page, number: u8, slot: &[u8; 42], at: u32)
+    ensures { IsAfter (page_of page.now) (λ item. item_number item == number) slot.now at first.old first.new }
+{
+    if 0 < number && number < 25 {
+        first.row = noted(first.row, is_row_wrong(page, number, slot), at);
+    } else {
+        *first = after_item(*first, page, number, slot, at);
+    }
+}
+
 /// The first slots, with the first header of another subpage.
 pub fn with_other_subpage(first: FirstSlots, other_subpage: Option<u32>) -> FirstSlots
     ensures { result ≡ record first { other_subpage = other_subpage } }

@@ -14,12 +14,12 @@ returns-then-at-pages-clause-noted c = λ i p x at here.
     let s = c.in-Some.s in
     let all = c.args.all.now.items in
     let lt : s.page < length all = omega (arith, c.if-at-len.true, c.len.ensures) in
-    subst (λ o. HoldsAt Facts (slice_set all s.page c.facts_after.result) i
+    subst (λ o. HoldsAt Facts (slice_set all s.page c.note_facts.new.facts) i
     (Noted c.args.limit p (λ item. is_sent i item o) c.args.slot.now.bytes.now c.args.slot.now.at x)) (sym c.in-Some.is)
     (noted_here c.args.limit c.args.pages.now s c.args.slot.now.bytes.now c.args.slot.now.at all
-    (page_of c.index-pages-at.result) c.index.result.now c.facts_after.result
+    (page_of c.index-pages-at.result) c.index_mut.result.now c.note_facts.new.facts
     (page_here c.args.pages.now s.page c.index-pages-at.result c.if-at-pages.true c.index-pages-at.is)
-    (slice_get_read all _ s.page c.index.result.now refl lt c.index.ensures) lt c.facts_after.ensures i p x at here)
+    (slice_get_read all _ s.page c.index_mut.result.now refl lt c.index_mut.ensures.value) lt c.note_facts.ensures i p x at here)
 
 pub returns-else-at-len-clause-noted : goal.returns-else-at-len-clause-noted
 returns-else-at-len-clause-noted c = λ i p x at here.
