@@ -4,11 +4,12 @@
 --   service_key, service_path, service_name    the key outside pages that a fault concerns
 --   spot_path, spot_name    the path and the name of the value that a fault concerns; if its key is missing, those of its table
 --   count_words, count_text, long_text    how many characters a text has that is too long, and how many fit
---   IsDetail                the detail about the value. What a key takes is only tested.
-use Rattle.std.specs.Prelude.{◌≡◌, ◌⊎◌, ℕ, ◌-◌, Bool, true, false, ◌||◌, ◌==◌, List, [], ◌++◌, codes, length, Option, Some, None, is_err, if◌then◌else◌}
+--   taken_text, IsDetail    what a key takes; the detail about the value
+use Rattle.std.specs.Prelude.{◌≡◌, ℕ, ◌-◌, Bool, true, false, ◌||◌, ◌==◌, List, [], ◌++◌, codes, length, Option, Some, None, is_err, if◌then◌else◌}
 use Rattle.std.specs.Fmt.{decimal}
 use Rattle.std.specs.Str.{chars}
 use Rattle.toml.specs.Data.{Members, get_member, get_item}
+use Rattle.ttx_source.specs.Accepted.{accepted_at}
 use Rattle.ttx_source.specs.Keys.{zeros}
 use Rattle.ttx_source.specs.Values.{Fault, not_toml, missing, wrong_kind, wrong_page_number, wrong_subcode, duplicate, too_long, wrong_character}
 use Rattle.ttx_source.specs.Values.{wrong_often, out_of_range, no_memory}
@@ -92,15 +93,15 @@ abbrev pub long_text : Members → Option Members → List ℕ
 long_text table None = count_text 20 (text_at (codes "text") (table_in (get_member (codes "info") table)))
 long_text table (Some page) = part_count page (text_part page)
 
-abbrev pub IsTaken : List ℕ → Type 0
-IsTaken detail = (detail ≡ []) ⊎ ((words : List ℕ) × (detail ≡ codes ": " ++ words))
+abbrev pub taken_text : List ℕ → List ℕ
+taken_text key = codes ": it takes " ++ accepted_at key
 
-abbrev pub IsDetailIn : Fault → Members → Option Members → List ℕ → Type 0
-IsDetailIn too_long table page detail = detail ≡ long_text table page
-IsDetailIn (missing key) table page detail = IsTaken detail
-IsDetailIn (wrong_kind key) table page detail = IsTaken detail
-IsDetailIn (out_of_range key) table page detail = IsTaken detail
-IsDetailIn fault table page detail = detail ≡ []
+abbrev pub detail_in : Fault → Members → Option Members → List ℕ
+detail_in too_long table page = long_text table page
+detail_in (missing key) table page = taken_text key
+detail_in (wrong_kind key) table page = taken_text key
+detail_in (out_of_range key) table page = taken_text key
+detail_in fault table page = []
 
 abbrev pub IsDetail : Members → Fault → ℕ → List ℕ → Type 0
-IsDetail table fault page detail = IsDetailIn fault table (page_table table page) detail
+IsDetail table fault page detail = detail ≡ detail_in fault table (page_table table page)

@@ -16,6 +16,7 @@ use crate::unknown_keys::{is_one_of, service_names};
 use std::alloc::{AllocError, Global};
 use toml::{Table, Value};
 use ttx_digits::push_decimal;
+use ttx_source::keys::accepted;
 use ttx_source::{SourceError, SourceFault};
 
 /// The value that a fault concerns: its path in the text, its name for people, and the detail in the line.
@@ -276,18 +277,13 @@ pub fn after_colon(alloc: Global, words: &str) -> Result<String, AllocError>
     Ok(detail)
 }
 
-// What a key takes: the words of the fault from their first colon on. Empty if they have no colon.
-fn taken_text(alloc: Global, fault: SourceFault) -> Result<String, AllocError>
-    ensures { IfOk result (λ detail. rule.IsTaken (string_bytes detail)) }
+// What the key of this name takes.
+fn taken_text(alloc: Global, key: &str) -> Result<String, AllocError>
+    ensures { IfOk result (λ detail. string_bytes detail ≡ rule.taken_text key.now) }
 {
-    let words = format!(in alloc; "{fault}")?;
-    match words.as_str().split_once(": ") {
-        Some((_before, taken)) => {
-            let detail = after_colon(alloc, taken)?;
-            Ok(detail)
-        }
-        None => Ok(String::new(alloc)),
-    }
+    let mut detail = String::from_str(alloc, ": it takes ")?;
+    detail.push_str(accepted(key))?;
+    Ok(detail)
 }
 
 // The detail about the value that a fault concerns.
@@ -297,13 +293,13 @@ fn detail_in(
     page: Option<&Table>,
     fault: SourceFault,
 ) -> Result<String, AllocError>
-    ensures { IfOk result (λ detail. rule.IsDetailIn (fault_of fault) (table_view table.now)
-        (option_map (λ t. table_view t.now) page.entry) (string_bytes detail)) }
+    ensures { IfOk result (λ detail. string_bytes detail ≡ rule.detail_in (fault_of fault) (table_view table.now)
+        (option_map (λ t. table_view t.now) page.entry)) }
 {
     match fault {
         SourceFault::RowTooLong => long_text(alloc, table, page),
-        SourceFault::Missing { .. } | SourceFault::Kind { .. } | SourceFault::Range { .. } =>
-            taken_text(alloc, fault),
+        SourceFault::Missing { key } | SourceFault::Kind { key } | SourceFault::Range { key } =>
+            taken_text(alloc, key),
         _ => Ok(String::new(alloc)),
     }
 }

@@ -26,6 +26,13 @@ pub(crate) fn marked() -> PageMemory {
     memory.unwrap_or(PageMemory::blank())
 }
 
+#[test]
+fn receivers_begin_with_an_x(rt: HostRuntime) {
+    let memory = marked();
+    assert!(rt; memory.rows()[1][0] == 0x58);
+    assert!(rt; !memory.fresh());
+}
+
 // The characters in columns 0 and 1 of row 1 once these slots are received.
 fn shown<R: Receiver + Drop>(mut receiver: R, slots: &[[u8; 42]]) -> [u32; 2] {
     receive(&mut receiver, slots);

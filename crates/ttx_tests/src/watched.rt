@@ -24,6 +24,19 @@ fn holding_an_x(fresh: bool) -> PageMemory {
     memory.unwrap_or(PageMemory::blank())
 }
 
+// Whether a memory has the X, and whether no header has come yet.
+fn holds_an_x(memory: &PageMemory, fresh: bool) -> bool {
+    let rows = memory.rows();
+    rows[1][0] == 0x58 && rows[1][1] == 0x20 && memory.fresh() == fresh
+}
+
+#[test]
+fn receivers_begin_as_is_said(rt: HostRuntime) {
+    assert!(rt; matches!(page_100(), Selection::Exact(_)));
+    assert!(rt; holds_an_x(&holding_an_x(true), true));
+    assert!(rt; holds_an_x(&holding_an_x(false), false));
+}
+
 // A row that begins with this byte, and then spaces.
 fn row_of(number: u8, first: u8) -> [u8; 42]
     requires { number < 32 }
