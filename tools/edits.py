@@ -1,5 +1,5 @@
 #!/usr/bin/env python3
-"""Tries each mutant of the must-fail edits by itself: edits.py [--jobs N] [--crate NAME].. [--anew], or edits.py --stale
+"""Tries each mutant of the must-fail edits by itself: edits.py [--joined] [--jobs N] [--crate NAME].. [--anew], or edits.py --stale
 
 An edit of the gate may hold several mutants (deliberate mistakes), separated by blank lines, each under a heading: the functions or
 definitions that it changes, or the mistake. The gate wants such an edit refused as a whole. Here the prover has to refuse each mutant, in a
@@ -12,8 +12,9 @@ tried alone, as are mutants of definitions, types and constants.
 
 Each result is written to tools/edits.tsv at once, one line for a mutant: the crate, the edit, the heading, the checksums of the mutant and
 of all that it is tried on (the sources of the crate and of those below it, without comments, and the logic), the verdict, the refused
-function or lemma, and how. A later run tries only mutants for which that file has no line with these checksums; --anew tries all. --stale tries
-nothing, and lists the mutants without such a line.
+function or lemma, and how. A later run tries only mutants for which that file has no line with these checksums; --anew tries all. --joined
+leaves out those that have an edit file of their own, which the gate has tried by itself. --stale tries nothing, and lists the mutants without
+such a line.
 
 The status is 1 if a mutant is not refused for want of a proof, or if a heading does not name the functions that its mutant changes.
 """
@@ -113,6 +114,12 @@ def bodies_of(name):
             heading = " ".join(line.removeprefix("#").strip() for line in lines if line.startswith("#"))
             found.append(Body(name, edit.name, heading, tuple(line for line in lines if not line.startswith("#"))))
     return found
+
+
+def joined(bodies):
+    """Those of a crate's mutants that share an edit file."""
+    counts = collections.Counter(body.edit for body in bodies)
+    return [body for body in bodies if counts[body.edit] > 1]
 
 
 def steps(lines):
@@ -374,11 +381,12 @@ def main():
     words.add_argument("--jobs", type=int, default=2, help="so many crates at a time, each in 1 to 4 GB")
     words.add_argument("--crate", action="append", help="this crate alone; more of them may be named")
     words.add_argument("--anew", action="store_true", help="also what the record has")
+    words.add_argument("--joined", action="store_true", help="only mutants that share an edit file")
     words.add_argument("--stale", action="store_true", help="lists the bodies that the record doesn't have as they stand, and tries none")
     words = words.parse_args()
     known, record, now = crates(), Record(), logic()
     names = words.crate or sorted(known)
-    bodies = {name: bodies_of(name) for name in names}
+    bodies = {name: joined(bodies_of(name)) if words.joined else bodies_of(name) for name in names}
     sums = {name: sum_of_sources(known, name, now) for name in names if bodies[name]}
     every = [body for name in names for body in bodies[name]]
     stale = [body for body in every if words.anew or not record.has(body, sums[body.crate])]
@@ -389,7 +397,7 @@ def main():
         which = ", ".join(f"{name} {counts[name]}" for name in sorted(counts))
         print(f"edits: {len(every)} wrong bodies, {len(stale)} not recorded as they stand" + (f": {which} (make edits tries them)" if stale else ""))
         return 1 if wrong else 0
-    record.keep(set(names), {body.key for body in every})
+    record.keep(set(names), {body.key for name in names for body in bodies_of(name)})
     mine = hashlib.sha256(str(pathlib.Path.cwd()).encode()).hexdigest()[:8]
     top = pathlib.Path(tempfile.gettempdir(), f"ttx-edits-{mine}")
     rooms = [Room(top / str(n), known) for n in range(words.jobs)]
