@@ -9,14 +9,14 @@ ghost use Rattle.ttx_monitor.specs.Starting.{Misfits, judged_slots, IsLikely, Is
 use crate::comparison::{is_blank, slot_breach};
 use crate::monitor::next;
 use ttx_cycle::Cycle;
-use ttx_cycle::arrays::are_slots;
+use ttx_cycle::arrays::{are_slots, is_slot};
 
 /// Whether `sent` may arrive as `received`, one slot by itself.
 pub fn fits(sent: &[u8; 42], received: &[u8; 42]) -> bool
-    requires { IsSlot received.now }
     ensures fit { result ≡ true → MayBeReceivedAs sent.now received.now }
     ensures misfit { result ≡ false → MayBeReceivedAs sent.now received.now → ⊥ }
 {
+    is_slot(received);
     slot_breach(sent, received).is_none()
 }
 
