@@ -41,6 +41,7 @@ COMMENTS = {".rt": "//", ".antt": "--"}
 ENOUGH = {"refused", "refused by an answer", "refused by a lemma"}
 
 ITEM = re.compile(r"\s*(?:pub(?:\([a-z]+\))? )?(?:const |unsafe )?(?:fn|struct|enum|const|static|trait|type)\s+(\w+)")
+IMPL = re.compile(r"impl\s*(?:[\w:]+\s+for\s+)?(?:\w+::)*(\w+)")
 DEFINITION = re.compile(r"(?:pub )?(?:abbrev |unfoldable |record |data )*(?:pub )?(?!where\b|unfolding\b|use\b|mod\b|--)([^\s:{})]+)")
 
 LACKING = re.compile(r"^fn \w+::(\S+): no proof: expected answers in \S+; (.*)$", re.M)
@@ -141,16 +142,34 @@ def name_above(path, text, at):
     return next((it[1] for it in found if it), "")
 
 
+def type_above(text, at):
+    """The type whose `impl` block a place of a file is in; nothing outside of such a block."""
+    for line in reversed(text[:at].split("\n")[:-1]):
+        while line.startswith("impl") and line != (bare := re.sub(r"<[^<>]*>", "", line)):
+            line = bare
+        if found := IMPL.match(line):
+            return found[1]
+        if line.startswith("}"):
+            break
+    return ""
+
+
 @functools.cache
-def turned(body):
-    """The functions and definitions that a mutant changes, each with its file."""
+def changed_items(body):
+    """What a mutant changes: for each change the file, the function or definition, and the type whose method it is."""
     found = []
     for path, old, _ in steps(body.lines):
         file = pathlib.Path("crates", body.crate, path)
         if file.is_file() and not old.startswith("use "):
             text = file.read_text()
-            found.append((path, name_above(path, text, text.find(old))))
+            at = text.find(old)
+            found.append((path, name_above(path, text, at), type_above(text, at)))
     return list(dict.fromkeys(found))
+
+
+def turned(body):
+    """The functions and definitions that a mutant changes, each with its file."""
+    return list(dict.fromkeys((path, name) for path, name, _ in changed_items(body)))
 
 
 def misnamed(body):
@@ -162,10 +181,14 @@ def misnamed(body):
 
 
 def turned_functions(body):
-    """The functions that a mutant changes, each as a pattern of its path in the crate."""
-    modules = [(path.removeprefix("src/").removesuffix(".rt"), name) for path, name in turned(body) if path.startswith("src/")]
-    within = lambda module: "" if module == "lib" else re.escape(module.replace("/", "::")) + "::"
-    return [rf"{within(module)}(?:\w+::)*{re.escape(name)}" for module, name in modules]
+    """The functions that a mutant changes, each as a pattern of its path in the crate. A method is named by the module of its type."""
+    found = []
+    for path, name, owner in changed_items(body):
+        if path.startswith("src/"):
+            module = path.removeprefix("src/").removesuffix(".rt").replace("/", "::")
+            found.append(rf"{'' if module == 'lib' else re.escape(module) + '::'}(?:\w+::)*{re.escape(name)}")
+            found += [rf"(?:\w+::)*{owner}::{re.escape(name)}"] * bool(owner)
+    return found
 
 
 def is_turned(body, function):
