@@ -12,7 +12,7 @@ tried alone, as are mutants of definitions, types and constants.
 
 Each result is written to tools/edits.tsv at once, one line for a mutant: the crate, the edit, the heading, the checksums of the mutant and
 of all that it is tried on (the sources of the crate and of those below it, without comments, and the logic), the verdict, the refused
-function or lemma, and how. A later run tries only mutants for which that file has no line with these checksums; --anew tries all. --joined
+function or lemma, and how. A later run tries only mutants that no line with these checksums says to be refused; --anew tries all. --joined
 leaves out those that have an edit file of their own, which the gate has tried by itself. --stale tries nothing, and lists the mutants without
 such a line.
 
@@ -356,7 +356,7 @@ class Record:
 
     def has(self, body, sources_sum):
         row = self.rows.get(body.key)
-        return row is not None and row[4] == sources_sum
+        return row is not None and row[4] == sources_sum and row[5] in ENOUGH
 
     def write(self, body, sources_sum, verdict, function, how):
         with self.lock:
