@@ -1,16 +1,15 @@
 //! Reads a service text, or says why it is refused.
 
-ghost use Rattle.std.specs.Prelude.{◌≡◌, IfOk, Err, Some};
+ghost use Rattle.std.specs.Prelude.{◌≡◌, IfOk, Some};
 ghost use Rattle.toml.specs.Parse.{parse_document};
 ghost use Rattle.toml.specs.View.{table_view};
 ghost use Rattle.ttx_check.specs.Readings as rule;
 ghost use Rattle.ttx_source.specs.Services.{service_of};
-ghost use Rattle.ttx_source.specs.Values.{not_toml};
 
 use crate::refusals::{error_line, toml_line};
 use std::alloc::{AllocError, Global};
 use toml::Table;
-use ttx_source::{Service, SourceError, SourceFault, service_of_table};
+use ttx_source::{Service, SourceError, SourceFault, read_document, service_of_table};
 
 /// A service, or the line about the first fault of its text.
 #[derive(Drop)]
@@ -36,23 +35,12 @@ fn table_reading(alloc: Global, bytes: &[u8], table: &Table) -> Result<Reading, 
     }
 }
 
-// The line about a text that is not a TOML document.
-fn toml_reading(alloc: Global, bytes: &[u8]) -> Result<Reading, AllocError>
-    ensures { IfOk result (λ reading. rule.IsReadingOf bytes.now (Err (not_toml, 0)) reading) }
-{
-    Ok(Reading::Refused(toml_line(alloc, bytes)?))
-}
-
 /// The service of a text, or the line about its first fault, as `check` writes it. `Err` if memory runs out.
 pub fn reading_of(alloc: Global, bytes: &[u8]) -> Result<Reading, AllocError>
     ensures { IfOk result (λ reading. rule.IsReading bytes.now reading) }
 {
-    let Ok(text) = std::str::from_utf8(bytes) else {
-        return toml_reading(alloc, bytes);
-    };
-    match toml::table_from_str(alloc, text) {
-        Ok(table) => table_reading(alloc, bytes, &table),
-        Err(error) if error.is_memory() => Err(AllocError),
-        Err(_) => toml_reading(alloc, bytes),
+    match read_document(alloc, bytes)? {
+        Some(document) => table_reading(alloc, bytes, &document.table),
+        None => Ok(Reading::Refused(toml_line(alloc, bytes)?)),
     }
 }

@@ -10,7 +10,6 @@ ghost use Rattle.ttx_source.specs.Faults.{fault_of};
 ghost use Rattle.ttx_source.specs.PromiseViews.{promise_view};
 ghost use Rattle.ttx_source.specs.Promises.{promises_of};
 ghost use Rattle.ttx_source.specs.Services.{service_of};
-ghost use Rattle.ttx_source.specs.Values.{not_toml};
 
 use crate::refusals::{error_line, toml_line};
 use crate::service_warnings::warnings;
@@ -19,7 +18,8 @@ use crate::warning_lines::push_warnings;
 use std::alloc::{AllocError, Global};
 use toml::Table;
 use ttx_source::{
-    Promise, Service, SourceError, SourceFault, promises_of_table, service_of_table, stays_of_table,
+    Promise, Service, SourceError, SourceFault, promises_of_table, read_document, service_of_table,
+    stays_of_table,
 };
 use ttx_stays::push_stay_warnings;
 
@@ -166,23 +166,12 @@ fn table_report(alloc: Global, bytes: &[u8], table: &Table) -> Result<Checked, A
     }
 }
 
-// The report on a text that is not a TOML document.
-fn toml_refusal(alloc: Global, bytes: &[u8]) -> Result<Checked, AllocError>
-    ensures { IfOk result (λ report. IsErrorLine bytes.now not_toml 0 (string_bytes report.text) × (report.status ≡ 2)) }
-{
-    Ok(refused(toml_line(alloc, bytes)?))
-}
-
 /// The report on a text: one line if the service, one of its promises or one of its stays is refused, otherwise the warnings. `Err` if memory runs out.
 pub fn report(alloc: Global, bytes: &[u8]) -> Result<Checked, AllocError>
     ensures { IfOk result (λ report. rule.IsServiceReport bytes.now (string_bytes report.text) report.status) }
 {
-    let Ok(text) = std::str::from_utf8(bytes) else {
-        return toml_refusal(alloc, bytes);
-    };
-    match toml::table_from_str(alloc, text) {
-        Ok(table) => table_report(alloc, bytes, &table),
-        Err(error) if error.is_memory() => Err(AllocError),
-        Err(_) => toml_refusal(alloc, bytes),
+    match read_document(alloc, bytes)? {
+        Some(document) => table_report(alloc, bytes, &document.table),
+        None => Ok(refused(toml_line(alloc, bytes)?)),
     }
 }
