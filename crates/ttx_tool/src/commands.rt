@@ -8,8 +8,6 @@ pub mod book;
 pub mod certify;
 pub mod check;
 pub mod check_json;
-pub mod compose;
-pub mod decompose;
 pub mod diagnosis;
 pub mod explain;
 pub mod extract;
@@ -40,6 +38,7 @@ pub mod service_text;
 pub mod show;
 pub mod splice;
 mod stays;
+pub mod translate;
 pub mod version;
 pub mod wait;
 

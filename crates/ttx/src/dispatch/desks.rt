@@ -9,6 +9,7 @@ use std::io::Write;
 use ttx_cycle::Counted;
 use ttx_kinds::Place;
 use ttx_tool::commands::service_text::Standing;
+use ttx_tool::commands::translate::{self, Compose, Decompose};
 use ttx_tool::{ToolFault, commands};
 
 /// The name that a file has in lines and comments.
@@ -58,12 +59,20 @@ impl Desk {
         let mut writer = Counted::new(lines);
         let alloc = rt.alloc();
         let answer = match self {
-            Desk::Compose => {
-                commands::compose::run(alloc, text.name, &mut reader, &mut file, &mut writer)
-            }
-            Desk::Decompose => {
-                commands::decompose::run(alloc, text.name, &mut reader, &mut file, &mut writer)
-            }
+            Desk::Compose => translate::run::<Compose, _, _, _>(
+                alloc,
+                text.name,
+                &mut reader,
+                &mut file,
+                &mut writer,
+            ),
+            Desk::Decompose => translate::run::<Decompose, _, _, _>(
+                alloc,
+                text.name,
+                &mut reader,
+                &mut file,
+                &mut writer,
+            ),
         };
         let status = status_of(rt, answer);
         Ok(told(rt, self.place(), reader.get_ref().kept(), status))
