@@ -5,17 +5,9 @@
 --   IsServiceLines          the lines about an author's text whose service text is refused: those of `check`
 --   IsRefusal               the lines about an author's text that has no service text
 --   IsRefusedFile           these lines, and no text
---   IsTold                  the status, the text and the lines
---   IsNotTold               why there are none: the author's text is not read
---   ComposesFile            what was written to the text's file and to the output, for each answer
-use Rattle.std.specs.Prelude.{◌≡◌, ◌⊎◌, ℕ, ◌<◌, ◌≤◌, List, [], ◌∷◌, ◌++◌, codes, length, string_bytes, ⊤, false, Option, Some, Result, Ok, Err}
+--   IsToldBy                the status, the text and the lines
+use Rattle.std.specs.Prelude.{◌≡◌, ◌⊎◌, ℕ, List, [], ◌∷◌, ◌++◌, codes, length, string_bytes, false, Some, Ok, Err}
 use Rattle.std.specs.Fmt.{decimal}
-use Rattle.std.specs.Io.KnownBytes.{Keeps}
-use Rattle.ttx_cycle.specs.Bounded.{most_bytes}
-use Rattle.ttx_files.specs.Answers.{WritesBoth}
-use Rattle.ttx_files.specs.declared.faults.FilesFault.{FilesFault}
-use Rattle.ttx_files.specs.declared.faults.FilesFault.TheVariants.{Read, TooLong, Write, NoMemory}
-use Rattle.ttx_files.specs.declared.faults.TextFile.TheVariants as text
 use Rattle.toml.specs.Data.{Members}
 use Rattle.ttx_author_files.specs.AuthorReports.{IsReportFor}
 use Rattle.ttx_desk.specs.Composing.{author_in, BeginsWith, Composes, first_comment}
@@ -61,21 +53,3 @@ pub record IsRefusedFile (name bytes text lines : List ℕ) : Type 0 where
 abbrev pub IsToldBy : List ℕ → List ℕ → ℕ → List ℕ → List ℕ → Type 0
 IsToldBy name bytes status text lines =
     ((status ≡ 0) × IsComposedFile name bytes text lines) ⊎ ((status ≡ 1) × IsRefusedFile name bytes text lines)
-
-abbrev pub IsTold : List ℕ → List ℕ → ℕ → List ℕ → List ℕ → Type 0
-IsTold name bytes status text lines = (length bytes ≤ most_bytes) × IsToldBy name bytes status text lines
-
--- why nothing is written: the author's text is not read
-abbrev pub IsNotTold : List ℕ → FilesFault → Type 0
-IsNotTold bytes (Read which) = which ≡ text.Service
-IsNotTold bytes (TooLong which) = (which ≡ text.Service) × (most_bytes < length bytes)
-IsNotTold bytes NoMemory = ⊤
-IsNotTold bytes _ = ⊥
-
--- Ok: text and lines. A write fault: the first `written` bytes of both. Otherwise nothing, and why.
-abbrev pub ComposesFile : List ℕ → List ℕ → Option (List ℕ) → Option (List ℕ) → Option (List ℕ) → Option (List ℕ) → Result ℕ FilesFault → Type 0
-ComposesFile name bytes file_old file_new old new (Ok status) =
-    (text line : List ℕ) × IsTold name bytes status text line × WritesBoth text line file_old file_new old new (Ok status)
-ComposesFile name bytes file_old file_new old new (Err (Write written)) =
-    (status : ℕ) × (text line : List ℕ) × IsTold name bytes status text line × WritesBoth {T = ℕ} text line file_old file_new old new (Err (Write written))
-ComposesFile name bytes file_old file_new old new (Err fault) = IsNotTold bytes fault × Keeps file_old file_new × Keeps old new

@@ -3,17 +3,11 @@
 --   decomposed_line         the line that says how many pages there are
 --   IsDecomposedFile        the author's text, and that line
 --   IsUnsaidFile            no text, and the line about a service text that no author's text means
---   IsTold                  the status, the text and the line
---   IsNotTold               why there are none: the service text is refused, or not read
---   DecomposesFile          what was written to the text's file and to the output, for each answer
-use Rattle.std.specs.Prelude.{◌≡◌, ◌⊎◌, ℕ, ◌<◌, ◌≤◌, List, [], ◌∷◌, ◌++◌, codes, length, string_bytes, ⊤, Option, Result, Ok, Err}
+--   IsToldBy                the status, the text and the line
+--   IsRefusedService        why there are none
+use Rattle.std.specs.Prelude.{◌≡◌, ◌⊎◌, ℕ, List, [], ◌∷◌, ◌++◌, codes, length, string_bytes, Ok, Err}
 use Rattle.std.specs.Fmt.{decimal}
-use Rattle.std.specs.Io.KnownBytes.{Keeps}
-use Rattle.ttx_cycle.specs.Bounded.{most_bytes}
-use Rattle.ttx_files.specs.Answers.{WritesBoth}
-use Rattle.ttx_files.specs.declared.faults.FilesFault.{FilesFault}
-use Rattle.ttx_files.specs.declared.faults.FilesFault.TheVariants.{Service, Read, TooLong, Write, NoMemory}
-use Rattle.ttx_files.specs.declared.faults.TextFile.TheVariants as text
+use Rattle.ttx_source.specs.declared.faults.SourceError.{SourceError}
 use Rattle.ttx_desk.specs.Decomposing.{Decomposes}
 use Rattle.ttx_desk.specs.declared.decomposition.Decomposed.{Decomposed}
 use Rattle.ttx_desk.specs.declared.decomposition.DecomposeFault.TheVariants as fault
@@ -42,27 +36,6 @@ abbrev pub IsToldBy : List ℕ → List ℕ → ℕ → List ℕ → List ℕ �
 IsToldBy name bytes status text line =
     ((status ≡ 0) × IsDecomposedFile bytes text line) ⊎ ((status ≡ 1) × IsUnsaidFile name bytes text line)
 
-abbrev pub IsTold : List ℕ → List ℕ → ℕ → List ℕ → List ℕ → Type 0
-IsTold name bytes status text line = (length bytes ≤ most_bytes) × IsToldBy name bytes status text line
-
--- why nothing is written for a text that is read: it is refused
-abbrev pub IsRefusedText : List ℕ → FilesFault → Type 0
-IsRefusedText bytes (Service error) = Decomposes bytes (Err (fault.Service error))
-IsRefusedText bytes NoMemory = ⊤
-IsRefusedText bytes _ = ⊥
-
--- why nothing is written: the service text is refused, or not read
-abbrev pub IsNotTold : List ℕ → FilesFault → Type 0
-IsNotTold bytes (Service error) = Decomposes bytes (Err (fault.Service error))
-IsNotTold bytes (Read which) = which ≡ text.Service
-IsNotTold bytes (TooLong which) = (which ≡ text.Service) × (most_bytes < length bytes)
-IsNotTold bytes NoMemory = ⊤
-IsNotTold bytes _ = ⊥
-
--- Ok: text and line. A write fault: the first `written` bytes of both. Otherwise nothing, and why.
-abbrev pub DecomposesFile : List ℕ → List ℕ → Option (List ℕ) → Option (List ℕ) → Option (List ℕ) → Option (List ℕ) → Result ℕ FilesFault → Type 0
-DecomposesFile name bytes file_old file_new old new (Ok status) =
-    (text line : List ℕ) × IsTold name bytes status text line × WritesBoth text line file_old file_new old new (Ok status)
-DecomposesFile name bytes file_old file_new old new (Err (Write written)) =
-    (status : ℕ) × (text line : List ℕ) × IsTold name bytes status text line × WritesBoth {T = ℕ} text line file_old file_new old new (Err (Write written))
-DecomposesFile name bytes file_old file_new old new (Err fault) = IsNotTold bytes fault × Keeps file_old file_new × Keeps old new
+-- the service text is refused
+abbrev pub IsRefusedService : List ℕ → SourceError → Type 0
+IsRefusedService bytes error = Decomposes bytes (Err (fault.Service error))

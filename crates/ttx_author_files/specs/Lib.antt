@@ -1,3 +1,4 @@
+pub mod Translating
 pub mod Composing
 pub mod AuthorTexts
 pub mod Decomposing

@@ -11,8 +11,9 @@ ghost use Rattle.ttx_author_files.specs.AuthorReports as rule;
 use crate::author_notes::push_author;
 use std::alloc::{AllocError, Global};
 use toml::Table;
+use ttx_check::Reported;
 use ttx_desk::{Mistake, mistake_place, push_fault, service_of};
-use ttx_mistakes::{LongReport, Paper, Placed, Reported, Style, pages_in, report_on};
+use ttx_mistakes::{Paper, Placed, Style, pages_in, report_on};
 use ttx_source::read_document;
 
 // A mistake for which an author's text is not composed, at its place.
@@ -71,7 +72,7 @@ fn author_report(
     style: Style<'_>,
     text: &str,
     author: &Table,
-) -> Result<LongReport, AllocError>
+) -> Result<Reported, AllocError>
     ensures { IfOk result (λ report. rule.IsReportOn style.entry text.now (table_view author.now) report.text.items report.status) }
 {
     let found = told_of_author(alloc, text, author)?;
@@ -100,9 +101,5 @@ pub(crate) fn reported_author(
     let Some(author) = read_document(alloc, bytes)? else {
         return Err(AllocError);
     };
-    let report = author_report(alloc, style, author.text, &author.table)?;
-    Ok(Reported {
-        text: report.text,
-        status: report.status,
-    })
+    author_report(alloc, style, author.text, &author.table)
 }

@@ -1,17 +1,13 @@
 //! `decompose`: the author's text of a service text.
 
-ghost use Rattle.std.specs.Prelude.{◌≡◌, ◌∷◌, [], None, length, IfSome, IfOk, IfErr, string_bytes};
-ghost use Rattle.ttx_cycle.specs.Counters.{inner_of, faults_of};
-ghost use Rattle.ttx_files.specs.Answers.{IsUntouched, is_write};
-ghost use Rattle.ttx_files.specs.Devices.{AtService, AtOutput, input, output, failed_at, IsFirstFailure, IsOf};
+ghost use Rattle.std.specs.Prelude.{◌≡◌, [], length, IfOk, IfErr, string_bytes};
 ghost use Rattle.ttx_author_files.specs.Decomposing as rule;
 
 use crate::service_text::filed;
+use crate::translation::Translation;
 use std::alloc::{AllocError, Global};
-use std::io::{Read, Write};
-use ttx_cycle::Counted;
 use ttx_desk::{DecomposeFault, Decomposed, decompose_service};
-use ttx_files::{Filed, FilesFault, read_service_text, write_both};
+use ttx_files::{Filed, FilesFault};
 
 // The line that says how many pages there are.
 fn decomposed_line(alloc: Global, count: usize) -> Result<String, AllocError>
@@ -49,42 +45,22 @@ fn tell_unsaid(alloc: Global, name: &str) -> Result<Filed<u8>, FilesFault>
     filed(1, Vec::new(alloc), unsaid_line(alloc, name))
 }
 
-// The status, the text and the line about a service text.
-fn tell(alloc: Global, name: &str, service: &[u8]) -> Result<Filed<u8>, FilesFault>
-    ensures told { IfOk result (λ told. rule.IsToldBy name.now service.now told.verdict told.file.items (string_bytes told.line)) }
-    ensures refused { IfErr result (rule.IsRefusedText service.now) }
-{
-    match decompose_service(alloc, service, name) {
-        Ok(decomposed) => tell_text(alloc, decomposed),
-        Err(DecomposeFault::Service(error)) => Err(FilesFault::Service(error)),
-        Err(DecomposeFault::Unsaid) => tell_unsaid(alloc, name),
-        Err(DecomposeFault::NoMemory) => Err(FilesFault::NoMemory),
-    }
-}
+/// Translates the text of a service into the author's text of it: the line has the number of its pages, and the status is 0. If there is
+/// no author's text, for example for a service with a key `author`, there is no text and a line that says so: the status is 1. The name is
+/// that of the service text, in this line and in the first comment of the author's text.
+pub struct Decompose;
 
-/// Reads the text of a service, of at most 4,194,304 bytes, and writes the author's text of it to `file`; then the number of its pages to
-/// `writer`: the status is 0. If there is no author's text, for example for a service with a key `author`, `file` gets nothing and `writer` a
-/// line that says so: the status is 1. `name` is the name of the service text, in this line and in the first comment of the author's text.
-///
-/// Nothing is written before the author's text is read again. After `Write` exactly the first `written` bytes of both went out, the file's
-/// before the line's; after any other fault both writers are unchanged.
-pub fn decompose_file<R: Read, O: Write, W: Write>(
-    alloc: Global,
-    name: &str,
-    reader: &mut Counted<R>,
-    file: &mut Counted<O>,
-    writer: &mut Counted<W>,
-) -> Result<u8, FilesFault>
-    ensures bytes { IfSome (R.remaining (inner_of reader.old)) (λ bytes. rule.DecomposesFile name.now bytes
-        (O.contents (inner_of file.old)) (O.contents (inner_of file.new)) (W.contents (inner_of writer.old)) (W.contents (inner_of writer.new))
-        result) }
-    ensures own { IfErr result (IsOf (AtService ∷ AtOutput ∷ [])) }
-    ensures faults { IsFirstFailure (input AtService None (faults_of reader.old) (faults_of reader.new)
-        ∷ output (faults_of file.old) (faults_of file.new) ∷ output (faults_of writer.old) (faults_of writer.new) ∷ []) (failed_at result) }
-    ensures untouched { IsUntouched is_write result file.old file.new × IsUntouched is_write result writer.old writer.new }
-{
-    let text = read_service_text(alloc, reader)?;
-    let told = tell(alloc, name, text.as_slice())?;
-    write_both(file, told.file.as_slice(), writer, told.line.as_bytes())?;
-    Ok(told.verdict)
+impl Translation for Decompose {
+    ghost says = { rule.IsToldBy };
+
+    ghost refuses = { rule.IsRefusedService };
+
+    fn tell(alloc: Global, name: &str, bytes: &[u8]) -> Result<Filed<u8>, FilesFault> {
+        match decompose_service(alloc, bytes, name) {
+            Ok(decomposed) => tell_text(alloc, decomposed),
+            Err(DecomposeFault::Service(error)) => Err(FilesFault::Service(error)),
+            Err(DecomposeFault::Unsaid) => tell_unsaid(alloc, name),
+            Err(DecomposeFault::NoMemory) => Err(FilesFault::NoMemory),
+        }
+    }
 }

@@ -1,6 +1,6 @@
 //! `check`: what is wrong, or probably wrong, in the text of a service or of an author.
 
-ghost use Rattle.std.specs.Prelude.{◌∷◌, [], None, IfErr, IfOk, IfSome};
+ghost use Rattle.std.specs.Prelude.{◌∷◌, [], None, IfErr, IfSome};
 ghost use Rattle.ttx_check.specs.Checking.{IsCheckFault};
 ghost use Rattle.ttx_cycle.specs.Counters.{inner_of, faults_of};
 ghost use Rattle.ttx_files.specs.Answers.{IsUntouched, is_write};
@@ -11,18 +11,24 @@ use crate::author_reports::reported_author;
 use crate::author_texts::is_author_text;
 use std::alloc::{AllocError, Global};
 use std::io::{Read, Write};
+use ttx_check::{Reported, Reporter, check};
 use ttx_cycle::Counted;
-use ttx_files::{FilesFault, read_service_text, write_line};
-use ttx_mistakes::{Reported, Style, report_in_style};
+use ttx_files::FilesFault;
+use ttx_mistakes::{Style, report_in_style};
 
-// The report on a text, by its first key.
-fn report_by_key(alloc: Global, bytes: &[u8], style: Style<'_>) -> Result<Reported, AllocError>
-    ensures { IfOk result (λ report. rule.IsReport style.entry bytes.now report.text.items report.status) }
-{
-    if is_author_text(alloc, bytes)? {
-        reported_author(alloc, bytes, style)
-    } else {
-        report_in_style(alloc, bytes, style)
+// Reports in a style.
+#[derive(Clone, Copy)]
+struct InStyle<'a>(Style<'a>);
+
+impl Reporter for InStyle<'_> {
+    ghost says = { λ s. rule.IsReport s.0 };
+
+    fn report(&self, alloc: Global, bytes: &[u8]) -> Result<Reported, AllocError> {
+        if is_author_text(alloc, bytes)? {
+            reported_author(alloc, bytes, self.0)
+        } else {
+            report_in_style(alloc, bytes, self.0)
+        }
     }
 }
 
@@ -44,10 +50,5 @@ pub fn check_file<R: Read, W: Write>(
         ∷ output (faults_of writer.old) (faults_of writer.new) ∷ []) (failed_at result) }
     ensures untouched { IsUntouched is_write result writer.old writer.new }
 {
-    let text = read_service_text(alloc, reader)?;
-    let Ok(report) = report_by_key(alloc, text.as_slice(), style) else {
-        return Err(FilesFault::NoMemory);
-    };
-    write_line(writer, report.text.as_slice())?;
-    Ok(report.status)
+    check(alloc, &InStyle(style), reader, writer)
 }

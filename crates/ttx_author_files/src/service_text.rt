@@ -1,17 +1,13 @@
 //! `compose`: the service text of an author's text, or its mistakes.
 
-ghost use Rattle.std.specs.Prelude.{◌≡◌, ◌∷◌, [], None, Ok, length, IfSome, IfOk, IfErr, string_bytes};
-ghost use Rattle.ttx_cycle.specs.Counters.{inner_of, faults_of};
-ghost use Rattle.ttx_files.specs.Answers.{IsUntouched, is_write};
-ghost use Rattle.ttx_files.specs.Devices.{AtService, AtOutput, input, output, failed_at, IsFirstFailure, IsOf};
+ghost use Rattle.std.specs.Prelude.{◌≡◌, [], Ok, length, IfOk, IfErr, string_bytes};
 ghost use Rattle.ttx_author_files.specs.Composing as rule;
 
 use crate::author_reports::reported_author;
+use crate::translation::Translation;
 use std::alloc::{AllocError, Global};
-use std::io::{Read, Write};
-use ttx_cycle::Counted;
 use ttx_desk::{ComposeFault, Composed, compose, mistakes_report, toml_report};
-use ttx_files::{Filed, FilesFault, read_service_text, write_both};
+use ttx_files::{Filed, FilesFault};
 use ttx_mistakes::Style;
 
 // The line that says how many pages there are.
@@ -107,41 +103,20 @@ fn tell_lines(
     filed(1, Vec::new(alloc), refusal(alloc, name, author, fault))
 }
 
-// The status, the text and the lines about an author's text.
-fn tell(alloc: Global, name: &str, author: &[u8]) -> Result<Filed<u8>, FilesFault>
-    ensures told { IfOk result (λ told. rule.IsToldBy name.now author.now told.verdict told.file.items (string_bytes told.line)) }
-    ensures fault { IfErr result (λ fault. fault ≡ FilesFault.NoMemory) }
-{
-    match compose(alloc, author, name) {
-        Ok(composed) => tell_text(alloc, composed),
-        Err(fault) => tell_lines(alloc, name, author, &fault),
-    }
-}
+/// Translates an author's text into the service text that it means: the line has the number of its pages, and the status is 0. Where the text
+/// has mistakes, is not TOML or is no service, there is no text and a line for each mistake, with its place, and their number: the status is
+/// 1. The name is that of the author's text, in the lines and in the first comment of the service text.
+pub struct Compose;
 
-/// Reads an author's text, of at most 4,194,304 bytes, and writes the service text that it means to `file`; then the number of its pages to
-/// `writer`: the status is 0. Where the text has mistakes, is not TOML or is no service, `file` gets nothing and `writer` a line for each mistake, with its
-/// place, and their number: the status is 1. `name` is the name of the author's text, in the lines and in the first comment of the service
-/// text.
-///
-/// Nothing is written before the service text is read again. After `Write` exactly the first `written` bytes of both went out, the file's
-/// before the line's; after any other fault both writers are unchanged.
-pub fn compose_file<R: Read, O: Write, W: Write>(
-    alloc: Global,
-    name: &str,
-    reader: &mut Counted<R>,
-    file: &mut Counted<O>,
-    writer: &mut Counted<W>,
-) -> Result<u8, FilesFault>
-    ensures bytes { IfSome (R.remaining (inner_of reader.old)) (λ bytes. rule.ComposesFile name.now bytes
-        (O.contents (inner_of file.old)) (O.contents (inner_of file.new)) (W.contents (inner_of writer.old)) (W.contents (inner_of writer.new))
-        result) }
-    ensures own { IfErr result (IsOf (AtService ∷ AtOutput ∷ [])) }
-    ensures faults { IsFirstFailure (input AtService None (faults_of reader.old) (faults_of reader.new)
-        ∷ output (faults_of file.old) (faults_of file.new) ∷ output (faults_of writer.old) (faults_of writer.new) ∷ []) (failed_at result) }
-    ensures untouched { IsUntouched is_write result file.old file.new × IsUntouched is_write result writer.old writer.new }
-{
-    let text = read_service_text(alloc, reader)?;
-    let told = tell(alloc, name, text.as_slice())?;
-    write_both(file, told.file.as_slice(), writer, told.line.as_bytes())?;
-    Ok(told.verdict)
+impl Translation for Compose {
+    ghost says = { rule.IsToldBy };
+
+    ghost refuses = { λ bytes error. ⊥ };
+
+    fn tell(alloc: Global, name: &str, bytes: &[u8]) -> Result<Filed<u8>, FilesFault> {
+        match compose(alloc, bytes, name) {
+            Ok(composed) => tell_text(alloc, composed),
+            Err(fault) => tell_lines(alloc, name, bytes, &fault),
+        }
+    }
 }

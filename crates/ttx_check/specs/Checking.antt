@@ -1,4 +1,4 @@
--- What `check` writes for the text of a service.
+-- What `check` writes for a text.
 --
 --   IsCheckFault            what keeps a report from being written
 --   Told                    the report on a text that is not too long
@@ -10,23 +10,22 @@ use Rattle.ttx_files.specs.Texts.{IsUnread}
 use Rattle.ttx_files.specs.declared.faults.FilesFault.{FilesFault}
 use Rattle.ttx_files.specs.declared.faults.FilesFault.TheVariants.{Read, TooLong, Write, NoMemory}
 use Rattle.ttx_files.specs.declared.faults.TextFile.TheVariants as text
-use Rattle.ttx_check.specs.Reports.{IsServiceReport}
 
 -- the text is not read, or the report not written
 abbrev pub IsCheckFault : FilesFault → Type 0
 IsCheckFault (Write written) = ⊤
 IsCheckFault fault = IsUnread text.Service fault
 
-pub record Told (bytes text : List ℕ) (status : ℕ) : Type 0 where
-  pub most : length bytes ≤ most_bytes
-  pub report : IsServiceReport bytes text status
+-- `Says` is the report on the bytes of a text, and its status
+abbrev pub Told : (List ℕ → List ℕ → ℕ → Type 0) → List ℕ → List ℕ → ℕ → Type 0
+Told Says bytes text status = (length bytes ≤ most_bytes) × Says bytes text status
 
 -- Ok: the report went out. After a failed write: its first `written` bytes. Otherwise nothing.
-abbrev pub Checks : List ℕ → Option (List ℕ) → Option (List ℕ) → Result ℕ FilesFault → Type 0
-Checks bytes old new (Ok status) = (text : List ℕ) × Told bytes text status × Appends old new text
-Checks bytes old new (Err (Write written)) =
-    (text : List ℕ) × (status : ℕ) × Told bytes text status × (written < length text) × Appends old new (take written text)
-Checks bytes old new (Err (TooLong which)) = (which ≡ text.Service) × (most_bytes < length bytes) × Keeps old new
-Checks bytes old new (Err (Read which)) = (which ≡ text.Service) × Keeps old new
-Checks bytes old new (Err NoMemory) = Keeps old new
-Checks bytes old new (Err _) = ⊥
+abbrev pub Checks : (List ℕ → List ℕ → ℕ → Type 0) → List ℕ → Option (List ℕ) → Option (List ℕ) → Result ℕ FilesFault → Type 0
+Checks Says bytes old new (Ok status) = (text : List ℕ) × Told Says bytes text status × Appends old new text
+Checks Says bytes old new (Err (Write written)) =
+    (text : List ℕ) × (status : ℕ) × Told Says bytes text status × (written < length text) × Appends old new (take written text)
+Checks Says bytes old new (Err (TooLong which)) = (which ≡ text.Service) × (most_bytes < length bytes) × Keeps old new
+Checks Says bytes old new (Err (Read which)) = (which ≡ text.Service) × Keeps old new
+Checks Says bytes old new (Err NoMemory) = Keeps old new
+Checks Says bytes old new (Err _) = ⊥

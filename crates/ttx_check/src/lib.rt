@@ -21,7 +21,7 @@ pub mod unknown_keys;
 pub mod warning;
 pub mod warning_lines;
 
-pub use check_report::check;
+pub use check_report::{Reported, Reporter, check};
 pub use readings::{Reading, reading_of};
 pub use reports::{Checked, report};
 pub use service_warnings::warnings;

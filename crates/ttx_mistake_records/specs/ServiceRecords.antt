@@ -3,27 +3,23 @@
 --   IsTomlRecord            those of a text that is not a TOML document; of a key that is given twice with both places
 --   IsTableRecord           those of a text with this table, and its status
 --   IsServiceRecord         those of a text, and its status
-use Rattle.std.specs.Prelude.{◌≡◌, ℕ, ◌≤◌, Bool, true, List, [], ◌∷◌, ◌++◌, codes, length, map, Option, Some, None}
+use Rattle.std.specs.Prelude.{◌≡◌, ℕ, Bool, true, List, [], ◌∷◌, ◌++◌, codes, map, Option, Some, None}
 use Rattle.toml.specs.Data.{Members}
 use Rattle.ttx_json.specs.Objects.{Member, count}
 use Rattle.ttx_source.specs.Documents.{document_of}
 use Rattle.ttx_mistakes.specs.LongLines.{placed}
-use Rattle.ttx_mistakes.specs.LongReports.{given_first, notes_of, pages_in}
+use Rattle.ttx_mistakes.specs.LongReports.{IsTomlMistake, notes_of, pages_in}
 use Rattle.ttx_mistake_records.specs.Records.{line, place_members, note_members, IsRecordOf}
 
 abbrev pub one_error : List Member
 one_error = count (codes "errors") 1 ∷ count (codes "warnings") 0 ∷ []
 
-abbrev pub toml_members : List ℕ → List ℕ → ℕ → List ℕ → List Member
-toml_members file bytes place words =
-    place_members file bytes place true (codes "this isn't TOML: " ++ words) ++ note_members bytes (given_first bytes place words)
-
--- the words behind the colon are those of the TOML reader
 pub record IsTomlRecord (file bytes text : List ℕ) : Type 0 where
   pub place : ℕ
   pub words : List ℕ
-  pub within : place ≤ length bytes
-  pub says : text ≡ line (toml_members file bytes place words) ++ line one_error
+  pub first : Option ℕ
+  pub mistake : IsTomlMistake bytes place words first
+  pub says : text ≡ line (place_members file bytes place true words ++ note_members bytes first) ++ line one_error
 
 abbrev pub IsTableRecord : List ℕ → List ℕ → Bool → Members → List ℕ → ℕ → Type 0
 IsTableRecord file bytes strict table text code =

@@ -4,10 +4,11 @@ ghost use Rattle.std.specs.Prelude.{IfOk, string_bytes};
 ghost use Rattle.toml.specs.View.{table_view};
 ghost use Rattle.ttx_mistake_records.specs.AuthorRecords.{IsRecordFor, IsAuthorRecord};
 
-use crate::records::{Paper, Record, record_of};
+use crate::records::{Paper, record_of};
 use std::alloc::{AllocError, Global};
 use toml::Table;
 use ttx_author_files::told_of_author;
+use ttx_check::Checked;
 use ttx_mistakes::pages_in;
 use ttx_source::read_document;
 
@@ -18,7 +19,7 @@ fn record_for(
     text: &str,
     strict: bool,
     author: &Table,
-) -> Result<Record, AllocError>
+) -> Result<Checked, AllocError>
     ensures { IfOk result (λ r. IsRecordFor file.now text.now strict (table_view author.now) (string_bytes r.text) r.status) }
 {
     let found = told_of_author(alloc, text, author)?;
@@ -35,7 +36,7 @@ pub fn author_record(
     file: &str,
     bytes: &[u8],
     strict: bool,
-) -> Result<Record, AllocError>
+) -> Result<Checked, AllocError>
     ensures { IfOk result (λ r. IsAuthorRecord file.now bytes.now strict (string_bytes r.text) r.status) }
 {
     match read_document(alloc, bytes)? {

@@ -8,13 +8,13 @@ ghost use Rattle.ttx_files.specs.Devices.{AtService, input, output, failed_at, I
 ghost use Rattle.ttx_mistake_records.specs.Checking as rule;
 
 use crate::author_records::author_record;
-use crate::records::Record;
 use crate::service_records::service_record;
 use std::alloc::{AllocError, Global};
 use std::io::{Read, Write};
 use ttx_author_files::is_author_text;
+use ttx_check::{Checked, Reported, Reporter, check};
 use ttx_cycle::Counted;
-use ttx_files::{FilesFault, read_service_text, write_line};
+use ttx_files::FilesFault;
 
 // The objects of a text, by its first key, and the status.
 fn record_by_key(
@@ -22,13 +22,32 @@ fn record_by_key(
     file: &str,
     bytes: &[u8],
     strict: bool,
-) -> Result<Record, AllocError>
+) -> Result<Checked, AllocError>
     ensures { IfOk result (λ r. rule.IsRecord file.now strict bytes.now (string_bytes r.text) r.status) }
 {
     if is_author_text(alloc, bytes)? {
         author_record(alloc, file, bytes, strict)
     } else {
         service_record(alloc, file, bytes, strict)
+    }
+}
+
+// Reports in objects: the name of the file, and whether a warning makes the status 1.
+#[derive(Clone, Copy)]
+struct Objects<'a> {
+    file: &'a str,
+    strict: bool,
+}
+
+impl Reporter for Objects<'_> {
+    ghost says = { λ o. rule.IsRecord o.file.now o.strict };
+
+    fn report(&self, alloc: Global, bytes: &[u8]) -> Result<Reported, AllocError> {
+        let record = record_by_key(alloc, self.file, bytes, self.strict)?;
+        Ok(Reported {
+            text: record.text.into_bytes(),
+            status: record.status,
+        })
     }
 }
 
@@ -52,15 +71,5 @@ pub fn check_file_json<R: Read, W: Write>(
         ∷ output (faults_of writer.old) (faults_of writer.new) ∷ []) (failed_at result) }
     ensures untouched { IsUntouched is_write result writer.old writer.new }
 {
-    let text = match read_service_text(alloc, reader) {
-        Ok(text) => text,
-        Err(fault) => return Err(fault),
-    };
-    let Ok(record) = record_by_key(alloc, file, text.as_slice(), strict) else {
-        return Err(FilesFault::NoMemory);
-    };
-    match write_line(writer, record.text.as_bytes()) {
-        Ok(()) => Ok(record.status),
-        Err(fault) => Err(fault),
-    }
+    check(alloc, &Objects { file, strict }, reader, writer)
 }

@@ -1,26 +1,17 @@
 //! The objects of errors and warnings.
 
-ghost use Rattle.std.specs.Prelude.{◌≡◌, ◌++◌, IfOk, OnOk, Some, string_bytes, take};
-ghost use Rattle.std.specs.List.{list_any};
-ghost use Rattle.ttx_mistakes.specs.LongReports as report;
+ghost use Rattle.std.specs.Prelude.{◌≡◌, ◌++◌, IfOk, OnOk, Some, string_bytes};
 ghost use Rattle.ttx_mistakes.specs.PlacedViews.{placed_view, placed_views};
 ghost use Rattle.ttx_mistake_records.specs.Records as rule;
 
 use std::alloc::{AllocError, Global};
+use ttx_check::Checked;
 use ttx_json::{count, push_object, word};
-use ttx_mistakes::Placed;
+use ttx_mistakes::{Placed, errors_in, shown, status, warnings_in};
 use ttx_places::position_of;
 
 // The most objects of errors and warnings.
 const MOST: usize = 100;
-
-/// The objects of a text, and the status.
-#[derive(Drop)]
-pub struct Record {
-    pub text: String,
-    /// 2 if the text is refused, 1 if a warning counts as strict, otherwise 0.
-    pub status: u8,
-}
 
 /// A text and the name of its file.
 #[derive(Clone, Copy)]
@@ -130,48 +121,6 @@ fn push_each(
     Ok(())
 }
 
-fn errors_in(found: &[Placed]) -> usize
-    ensures { result ≡ report.errors_in (placed_views found.now) }
-{
-    let mut number = 0;
-    for placed in found {
-        if placed.error {
-            number += 1;
-        }
-    }
-    number
-}
-
-fn warnings_in(found: &[Placed]) -> usize
-    ensures { result ≡ report.warnings_in (placed_views found.now) }
-{
-    let mut number = 0;
-    for placed in found {
-        if !placed.error {
-            number += 1;
-        }
-    }
-    number
-}
-
-// The first ones.
-fn first_ones(found: &[Placed], most: usize) -> &[Placed]
-    ensures { result.now ≡ take most found.now }
-{
-    if most < found.len() {
-        &found[..most]
-    } else {
-        found
-    }
-}
-
-// Those that are shown.
-fn shown(found: &[Placed]) -> &[Placed]
-    ensures { placed_views result.now ≡ take 100 (placed_views found.now) }
-{
-    first_ones(found, MOST)
-}
-
 // Adds that nothing was found in a text with so many pages.
 #[tactic(auto, unfolding(crate::specs::Records::line))]
 fn push_none(alloc: Global, text: &mut String, pages: usize) -> Result<(), AllocError>
@@ -238,29 +187,6 @@ fn push_last(
     }
 }
 
-fn has_error(found: &[Placed]) -> bool
-    ensures { result ≡ list_any (λ p. p.error) (placed_views found.now) }
-{
-    for placed in found {
-        if placed.error {
-            return true;
-        }
-    }
-    false
-}
-
-fn status(strict: bool, found: &[Placed]) -> u8
-    ensures { result ≡ report.status strict (placed_views found.now) }
-{
-    if has_error(found) {
-        2
-    } else if strict && !found.is_empty() {
-        1
-    } else {
-        0
-    }
-}
-
 // The objects of a text with so many pages, in which this was found.
 fn records_text(
     alloc: Global,
@@ -283,11 +209,11 @@ pub fn record_of(
     strict: bool,
     pages: usize,
     found: &[Placed],
-) -> Result<Record, AllocError>
+) -> Result<Checked, AllocError>
     ensures { IfOk result (λ r. rule.IsRecordOf strict paper.entry.file.now paper.entry.bytes.now pages (placed_views found.now)
         (string_bytes r.text) r.status) }
 {
-    Ok(Record {
+    Ok(Checked {
         text: records_text(alloc, paper, pages, found)?,
         status: status(strict, found),
     })

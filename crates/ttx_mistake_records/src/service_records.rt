@@ -1,29 +1,16 @@
 //! The objects of the text of a service.
 
-ghost use Rattle.std.specs.Prelude.{◌≡◌, ◌++◌, IfOk, OnOk, codes, map, string_bytes};
+ghost use Rattle.std.specs.Prelude.{◌≡◌, ◌++◌, IfOk, OnOk, string_bytes};
 ghost use Rattle.toml.specs.View.{table_view};
-ghost use Rattle.ttx_mistakes.specs.LongLines.{placed};
-ghost use Rattle.ttx_mistakes.specs.LongReports as report;
-ghost use Rattle.ttx_mistakes.specs.PlacedViews.{placed_views};
 ghost use Rattle.ttx_mistake_records.specs.Records as rule;
 ghost use Rattle.ttx_mistake_records.specs.ServiceRecords as service;
 
-use crate::records::{Paper, Record, Said, push_again, push_counts, push_said, record_of};
+use crate::records::{Paper, Said, push_again, push_counts, push_said, record_of};
 use std::alloc::{AllocError, Global};
 use toml::Table;
-use ttx_mistakes::long_reports::{given_first, toml_words};
-use ttx_mistakes::{Placed, notes_of, pages_in, push_notes};
+use ttx_check::Checked;
+use ttx_mistakes::{pages_in, placed_notes, toml_mistake};
 use ttx_source::read_document;
-
-// The errors and warnings about a text with this table, at their places.
-fn placed_notes(alloc: Global, text: &str, table: &Table) -> Result<Vec<Placed>, AllocError>
-    ensures { IfOk result (λ found. placed_views found.items ≡ map (placed text.now) (report.notes_of (table_view table.now))) }
-{
-    let notes = notes_of(alloc, table)?;
-    let mut found = Vec::new(alloc);
-    push_notes(alloc, &mut found, text, &notes)?;
-    Ok(found)
-}
 
 // The objects of a text with this table.
 fn table_record(
@@ -32,7 +19,7 @@ fn table_record(
     text: &str,
     strict: bool,
     table: &Table,
-) -> Result<Record, AllocError>
+) -> Result<Checked, AllocError>
     ensures { IfOk result (λ r. service.IsTableRecord file.now text.now strict (table_view table.now) (string_bytes r.text) r.status) }
 {
     let found = placed_notes(alloc, text, table)?;
@@ -78,39 +65,18 @@ fn error_records(
     Ok(text)
 }
 
-// The objects of a text that is not a TOML document, with the place and the words of the TOML reader.
-fn toml_records(
-    alloc: Global,
-    paper: Paper<'_>,
-    place: usize,
-    message: &str,
-) -> Result<String, AllocError>
-    ensures { IfOk result (λ text. string_bytes text
-        ≡ rule.line (service.toml_members paper.entry.file.now paper.entry.bytes.now place message.now) ++ rule.line service.one_error) }
-{
-    let words = toml_words(alloc, message)?;
-    let first = given_first(alloc, paper.bytes, place, message)?;
-    let said = Said {
-        place,
-        error: true,
-        words: words.as_str(),
-    };
-    error_records(alloc, paper, said, first)
-}
-
 // The objects of a text that is not a TOML document, and the status.
-fn toml_record(alloc: Global, file: &str, bytes: &[u8]) -> Result<Record, AllocError>
+fn toml_record(alloc: Global, file: &str, bytes: &[u8]) -> Result<Checked, AllocError>
     ensures { IfOk result (λ r. service.IsTomlRecord file.now bytes.now (string_bytes r.text) × (r.status ≡ 2)) }
 {
-    let Err(error) = toml::table_from_slice(alloc, bytes) else {
-        return Err(AllocError);
+    let mistake = toml_mistake(alloc, bytes)?;
+    let said = Said {
+        place: mistake.place,
+        error: true,
+        words: mistake.words.as_str(),
     };
-    let Some(span) = error.span() else {
-        return Err(AllocError);
-    };
-    let paper = Paper { file, bytes };
-    let text = toml_records(alloc, paper, span.start, error.message())?;
-    Ok(Record { text, status: 2 })
+    let text = error_records(alloc, Paper { file, bytes }, said, mistake.first)?;
+    Ok(Checked { text, status: 2 })
 }
 
 /// The objects of the text of a service, and the status. With `strict` a warning makes it 1. `Err` if memory runs out.
@@ -119,7 +85,7 @@ pub fn service_record(
     file: &str,
     bytes: &[u8],
     strict: bool,
-) -> Result<Record, AllocError>
+) -> Result<Checked, AllocError>
     ensures { IfOk result (λ r. service.IsServiceRecord file.now bytes.now strict (string_bytes r.text) r.status) }
 {
     match read_document(alloc, bytes)? {

@@ -4,7 +4,8 @@
 --   summary, report_text    the last line; the whole report: at most 100 notes
 --   status                  2 if there is an error, 1 if a warning counts as strict, otherwise 0
 --   IsReportOf              the report on a text in which this was found, and its status
---   given_first, IsTomlReport   the report on a text that is not a TOML document; of a key that is given twice it tells both places
+--   given_first, IsTomlMistake  why a text is not a TOML document, with both places of a key that is given twice
+--   IsTomlReport            the report on such a text
 --   IsLongReport            the report on a text, and its status
 use Rattle.std.specs.Prelude.{◌≡◌, ℕ, ◌≤◌, Bool, true, not, ◌&&◌, ◌==◌, nat_lt, count_by, if◌then◌else◌, List, [], ◌∷◌, ◌++◌, codes, length, map, take, Option, Some, None, Result, Ok, Err}
 use Rattle.std.specs.Fmt.{decimal}
@@ -75,14 +76,18 @@ abbrev pub given_first : List ℕ → ℕ → List ℕ → Option ℕ
 given_first bytes place words = if bytes_eq words (codes "duplicate key") then first_in bytes place else None
 
 -- the words behind the colon are those of the TOML reader
+pub record IsTomlMistake (bytes : List ℕ) (place : ℕ) (words : List ℕ) (first : Option ℕ) : Type 0 where
+  pub reason : List ℕ
+  pub within : place ≤ length bytes
+  pub words_are : words ≡ codes "this isn't TOML: " ++ reason
+  pub first_is : first ≡ given_first bytes place reason
+
 pub record IsTomlReport (file bytes : List ℕ) (text : List ℕ) : Type 0 where
   pub place : ℕ
   pub words : List ℕ
-  pub within : place ≤ length bytes
-  pub says :
-      text
-      ≡ lines_at file bytes place true (codes "this isn't TOML: " ++ words) ++ first_lines file bytes (given_first bytes place words)
-      ++ codes "1 error, 0 warnings" ++ 10 ∷ []
+  pub first : Option ℕ
+  pub mistake : IsTomlMistake bytes place words first
+  pub says : text ≡ lines_at file bytes place true words ++ first_lines file bytes first ++ codes "1 error, 0 warnings" ++ 10 ∷ []
 
 abbrev pub IsTableReport : List ℕ → List ℕ → Bool → Members → List ℕ → ℕ → Type 0
 IsTableReport file bytes strict table text code =

@@ -19,7 +19,10 @@ mod stay_notes;
 pub mod warning_notes;
 mod whys;
 
-pub use check_report::{Reported, Style, check_in, report_in_style};
-pub use long_reports::{LongReport, long_report, notes_of, pages_in, report_on};
+pub use check_report::{Style, report_in_style};
+pub use long_reports::{
+    errors_in, notes_of, pages_in, placed_notes, report_on, shown, status, toml_mistake,
+    warnings_in,
+};
 pub use mistake_list::all_mistakes;
 pub use placed::{Paper, Placed, push_notes, value_place};

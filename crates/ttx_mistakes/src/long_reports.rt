@@ -22,6 +22,7 @@ use crate::stay_notes::push_stays;
 use crate::warning_notes::push_warnings;
 use std::alloc::{AllocError, Global};
 use toml::Table;
+use ttx_check::Reported;
 use ttx_check::parts::values_at;
 use ttx_digits::push_decimal;
 use ttx_source::links::count;
@@ -29,12 +30,12 @@ use ttx_source::{
     Service, SourceError, SourceFault, read_document, service_of_table, stays_of_table,
 };
 
-/// The long report on a text, and the status.
+/// Why a text is not a TOML document: the place and the words, and where a key is first given that is given twice.
 #[derive(Drop)]
-pub struct LongReport {
-    pub text: Vec<u8>,
-    /// 2 if the text is refused, 1 if a warning counts as strict, otherwise 0.
-    pub status: u8,
+pub struct TomlMistake {
+    pub place: usize,
+    pub words: String,
+    pub first: Option<usize>,
 }
 
 /// Adds the warnings about the stays of a service, if they are read.
@@ -104,7 +105,8 @@ fn push_counted(text: &mut String, number: usize, word: &str) -> Result<(), Allo
     text.push('s')
 }
 
-fn errors_in(found: &[Placed]) -> usize
+/// How many errors were found.
+pub fn errors_in(found: &[Placed]) -> usize
     ensures { result ≡ rule.errors_in (placed_views found.now) }
 {
     let mut number = 0;
@@ -116,7 +118,8 @@ fn errors_in(found: &[Placed]) -> usize
     number
 }
 
-fn warnings_in(found: &[Placed]) -> usize
+/// How many warnings were found.
+pub fn warnings_in(found: &[Placed]) -> usize
     ensures { result ≡ rule.warnings_in (placed_views found.now) }
 {
     let mut number = 0;
@@ -180,8 +183,8 @@ fn first_ones(found: &[Placed], most: usize) -> &[Placed]
     }
 }
 
-// The first 100.
-fn shown(found: &[Placed]) -> &[Placed]
+/// The first 100.
+pub fn shown(found: &[Placed]) -> &[Placed]
     ensures { placed_views result.now ≡ take 100 (placed_views found.now) }
 {
     first_ones(found, 100)
@@ -227,7 +230,8 @@ fn has_error(found: &[Placed]) -> bool
     false
 }
 
-fn status(strict: bool, found: &[Placed]) -> u8
+/// 2 if an error was found, 1 if a warning counts as strict, otherwise 0.
+pub fn status(strict: bool, found: &[Placed]) -> u8
     ensures { result ≡ rule.status strict (placed_views found.now) }
 {
     if has_error(found) {
@@ -246,18 +250,18 @@ pub fn report_on(
     strict: bool,
     pages: usize,
     found: &[Placed],
-) -> Result<LongReport, AllocError>
+) -> Result<Reported, AllocError>
     ensures { IfOk result (λ report.
         rule.IsReportOf paper.entry.long strict paper.entry.file.now paper.entry.bytes.now pages (placed_views found.now) report.text.items report.status) }
 {
-    Ok(LongReport {
+    Ok(Reported {
         text: report_text(alloc, paper, pages, found)?,
         status: status(strict, found),
     })
 }
 
-// The errors and warnings about a text with this table, at their places.
-fn placed_notes(alloc: Global, text: &str, table: &Table) -> Result<Vec<Placed>, AllocError>
+/// The errors and warnings about a text with this table, at their places.
+pub fn placed_notes(alloc: Global, text: &str, table: &Table) -> Result<Vec<Placed>, AllocError>
     ensures { IfOk result (λ found. placed_views found.items ≡ map (placed text.now) (rule.notes_of (table_view table.now))) }
 {
     let notes = notes_of(alloc, table)?;
@@ -273,7 +277,7 @@ fn table_report(
     bytes: &str,
     strict: bool,
     table: &Table,
-) -> Result<LongReport, AllocError>
+) -> Result<Reported, AllocError>
     ensures { IfOk result (λ report. rule.IsTableReport file.now bytes.now strict (table_view table.now) report.text.items report.status) }
 {
     let found = placed_notes(alloc, bytes, table)?;
@@ -285,8 +289,8 @@ fn table_report(
     report_on(alloc, paper, strict, pages_in(table), &found)
 }
 
-/// The words about a text that is not a TOML document.
-pub fn toml_words(alloc: Global, message: &str) -> Result<String, AllocError>
+// The words about a text that is not a TOML document.
+fn toml_words(alloc: Global, message: &str) -> Result<String, AllocError>
     ensures { IfOk result (λ words. string_bytes words ≡ codes "this isn't TOML: " ++ message.now) }
 {
     let mut words = String::from_str(alloc, "this isn't TOML: ")?;
@@ -304,8 +308,8 @@ fn first_in(alloc: Global, bytes: &[u8], place: usize) -> Result<Option<usize>, 
     }
 }
 
-/// The place where the key at a place of a text is first given, if the words of the TOML reader say that it is given twice.
-pub fn given_first(
+// The place where the key at a place of a text is first given, if the words of the TOML reader say that it is given twice.
+fn given_first(
     alloc: Global,
     bytes: &[u8],
     place: usize,
@@ -320,6 +324,27 @@ pub fn given_first(
     }
 }
 
+/// Why a text is not a TOML document, from the place and the words of the TOML reader; of a text that is one, `Err`.
+pub fn toml_mistake(alloc: Global, bytes: &[u8]) -> Result<TomlMistake, AllocError>
+    ensures { IfOk result (λ mistake. rule.IsTomlMistake bytes.now mistake.place (string_bytes mistake.words) mistake.first) }
+{
+    let Err(error) = toml::table_from_slice(alloc, bytes) else {
+        return Err(AllocError);
+    };
+    let Some(span) = error.span() else {
+        return Err(AllocError);
+    };
+    let place = span.start;
+    let reason = error.message();
+    let words = toml_words(alloc, reason)?;
+    let first = given_first(alloc, bytes, place, reason)?;
+    Ok(TomlMistake {
+        place,
+        words,
+        first,
+    })
+}
+
 // The lines about such a text, at a place, and at that where a key is first given.
 fn toml_lines(alloc: Global, said: Said<'_>, first: Option<usize>) -> Result<Vec<u8>, AllocError>
     ensures { IfOk result (λ text. text.items ≡ lines_at said.entry.file.now said.entry.bytes.now said.entry.place said.entry.error said.entry.words.now
@@ -332,41 +357,20 @@ fn toml_lines(alloc: Global, said: Said<'_>, first: Option<usize>) -> Result<Vec
     Ok(text)
 }
 
-// The report on a text that is not a TOML document, about a place and with the words of the TOML reader.
-fn toml_report_at(
-    alloc: Global,
-    file: &str,
-    bytes: &[u8],
-    place: usize,
-    message: &str,
-) -> Result<Vec<u8>, AllocError>
-    ensures { IfOk result (λ text. text.items ≡ lines_at file.now bytes.now place true (codes "this isn't TOML: " ++ message.now)
-        ++ first_lines file.now bytes.now (rule.given_first bytes.now place message.now) ++ codes "1 error, 0 warnings" ++ 10 ∷ []) }
+// The report on a text that is not a TOML document.
+fn toml_report(alloc: Global, file: &str, bytes: &[u8]) -> Result<Reported, AllocError>
+    ensures { IfOk result (λ report. rule.IsTomlReport file.now bytes.now report.text.items × (report.status ≡ 2)) }
 {
-    let words = toml_words(alloc, message)?;
-    let first = given_first(alloc, bytes, place, message)?;
+    let mistake = toml_mistake(alloc, bytes)?;
     let said = Said {
         file,
         bytes,
-        place,
+        place: mistake.place,
         error: true,
-        words: words.as_bytes(),
+        words: mistake.words.as_bytes(),
     };
-    toml_lines(alloc, said, first)
-}
-
-// The report on a text that is not a TOML document.
-fn toml_report(alloc: Global, file: &str, bytes: &[u8]) -> Result<LongReport, AllocError>
-    ensures { IfOk result (λ report. rule.IsTomlReport file.now bytes.now report.text.items × (report.status ≡ 2)) }
-{
-    let Err(error) = toml::table_from_slice(alloc, bytes) else {
-        return Err(AllocError);
-    };
-    let Some(span) = error.span() else {
-        return Err(AllocError);
-    };
-    let text = toml_report_at(alloc, file, bytes, span.start, error.message())?;
-    Ok(LongReport { text, status: 2 })
+    let text = toml_lines(alloc, said, mistake.first)?;
+    Ok(Reported { text, status: 2 })
 }
 
 /// The long report on a text that a file has. With `strict` a warning makes the status 1. `Err` if memory runs out.
@@ -375,7 +379,7 @@ pub fn long_report(
     file: &str,
     bytes: &[u8],
     strict: bool,
-) -> Result<LongReport, AllocError>
+) -> Result<Reported, AllocError>
     ensures { IfOk result (λ report. rule.IsLongReport file.now bytes.now strict report.text.items report.status) }
 {
     match read_document(alloc, bytes)? {

@@ -1,7 +1,11 @@
 -- The devices of a command that reads its inputs, of which one is refused.
-use Rattle.std.proofs.Common.{List, [], ◌∷◌, ◌++◌, map, Option, Some, None, Result, Ok, Err, inl, inr}
+use Rattle.std.proofs.Common.{◌≡◌, ◌∙◌, ℕ, ◌≤◌, List, [], ◌∷◌, ◌++◌, length, map, Option, Some, None, Result, Ok, Err, inl, inr, subst}
+use Rattle.std.specs.Prelude.{IfSome}
+use Rattle.std.proofs.lemmas.Option.{IfSome_then}
+use Rattle.ttx_cycle.specs.Bounded.{most_bytes}
 use Rattle.ttx_files.proofs.Failures.{stopped, gone_on}
-use Rattle.ttx_files.specs.Devices.{Place, Device, AllRight, IsAmong, IsFirstFailure}
+use Rattle.ttx_files.specs.Devices.{Place, AtService, Device, AllRight, IsAmong, IsFirstFailure, IsRight}
+use Rattle.ttx_source.specs.Services.{ServiceFields, read_bytes}
 use Rattle.ttx_tool.specs.Devices.{failed_in, place_of, IsFaultOf, Fails}
 use Rattle.ttx_tool.specs.declared.faults.ToolFault.{ToolFault}
 
@@ -26,3 +30,10 @@ pub went_on : {T : Type 0} (ds es : List Device) (result : Result T ToolFault) �
     Fails (ds ++ es) result
 went_on ds es (Ok x) h right e = gone_on ds es None h right e
 went_on ds es (Err fault) h right e = (gone_on ds es (failed_in fault) h right e.0, among_last ds es (place_of fault) e.1)
+
+-- a text whose service is read is as it should be
+pub service_read : (known : Option (List ℕ)) (items given : List ℕ) (service : ServiceFields) →
+    IfSome known (λ bytes. (items ≡ bytes) × (length bytes ≤ most_bytes)) → given ≡ items → read_bytes given ≡ Ok service → IsRight AtService known
+service_read known items given service read same is =
+    IfSome_then known read
+    (λ bytes r. (service, record { most = r.1; says = subst (λ xs. read_bytes xs ≡ Ok service) (same ∙ r.0) is }))

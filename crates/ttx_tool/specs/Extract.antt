@@ -1,4 +1,4 @@
--- What `extract` writes for the bytes of a packet file.
+-- What `extract` writes for the bytes of a packet file, also with `--partial`.
 --
 --   extracted_line          the line that says how many pages there are
 --   IsExtracted, IsExtracting       the text of what slots send, and of a packet file, and its line
@@ -17,7 +17,8 @@ use Rattle.ttx_files.specs.Texts.{IsServiceText}
 use Rattle.ttx_files.specs.declared.faults.FilesFault.TheVariants.{Cycle, Write, NoMemory}
 use Rattle.ttx_files.specs.declared.told.Filed.{Filed}
 use Rattle.ttx_cycle.specs.Reading.{Judged}
-use Rattle.ttx_extract.specs.Extracts.{IsExtract, AnswersFault}
+use Rattle.ttx_extract.specs.Extracts.{IsExtract}
+use Rattle.ttx_extract.specs.declared.faults.ExtractFault.{ExtractFault}
 use Rattle.ttx_source.specs.Services.{ServiceFields}
 use Rattle.ttx_tool.specs.Devices.{is_tool_write, IsFaultOf}
 use Rattle.ttx_tool.specs.declared.faults.ExtractionFault.{ExtractionFault}
@@ -34,36 +35,36 @@ pub record IsExtracted (slots : List (List ℕ)) (lines : ℕ) (text line : List
   pub says : IsExtract slots lines service
   pub line_is : line ≡ extracted_line (length service.pages)
 
--- the same for a packet file
-pub record IsExtracting (bytes : List ℕ) (lines : ℕ) (text line : List ℕ) : Type 0 where
-  pub slots : List (List ℕ)
-  pub cycle_is : IsPacketFile bytes slots
-  pub told : IsExtracted slots lines text line
+-- the same for a packet file, where `Says` is the text for slots and the lines about it
+abbrev pub IsExtracting : (List (List ℕ) → List ℕ → List ℕ → Type 0) → List ℕ → List ℕ → List ℕ → Type 0
+IsExtracting Says bytes text line = (slots : List (List ℕ)) × IsPacketFile bytes slots × Says slots text line
 
 -- there is no text of the slots, or memory ran out
-abbrev pub IsExtractFault : List (List ℕ) → ℕ → ExtractionFault → Type 0
-IsExtractFault slots lines (Refused fault) = AnswersFault slots lines fault
-IsExtractFault slots lines (Tool (Files NoMemory)) = ⊤
-IsExtractFault slots lines (Tool _) = ⊥
+abbrev pub IsExtractFault : (ExtractFault → Type 0) → ExtractionFault → Type 0
+IsExtractFault Refuses (Refused fault) = Refuses fault
+IsExtractFault Refuses (Tool (Files NoMemory)) = ⊤
+IsExtractFault Refuses (Tool _) = ⊥
 
 -- of these bytes there is no cycle, or there is and no text of it
-abbrev pub IsNoExtract : List ℕ → ℕ → ExtractionFault → Type 0
-IsNoExtract bytes lines (Refused fault) = (slots : List (List ℕ)) × IsPacketFile bytes slots × AnswersFault slots lines fault
-IsNoExtract bytes lines (Tool (Files (Cycle fault))) = Judged bytes (Err fault)
-IsNoExtract bytes lines (Tool (Files NoMemory)) = ⊤
-IsNoExtract bytes lines (Tool _) = ⊥
+abbrev pub IsNoExtract : (List (List ℕ) → ExtractFault → Type 0) → List ℕ → ExtractionFault → Type 0
+IsNoExtract Refuses bytes (Refused fault) = (slots : List (List ℕ)) × IsPacketFile bytes slots × Refuses slots fault
+IsNoExtract Refuses bytes (Tool (Files (Cycle fault))) = Judged bytes (Err fault)
+IsNoExtract Refuses bytes (Tool (Files NoMemory)) = ⊤
+IsNoExtract Refuses bytes (Tool _) = ⊥
 
-abbrev pub ExtractsText : List ℕ → ℕ → Result (Filed ⊤) ExtractionFault → Type 0
-ExtractsText bytes lines (Ok told) = IsExtracting bytes lines told.file.items (string_bytes told.line)
-ExtractsText bytes lines (Err fault) = IsNoExtract bytes lines fault
+abbrev pub ExtractsText : (List (List ℕ) → List ℕ → List ℕ → Type 0) → (List (List ℕ) → ExtractFault → Type 0) → List ℕ →
+    Result (Filed ⊤) ExtractionFault → Type 0
+ExtractsText Says Refuses bytes (Ok told) = IsExtracting Says bytes told.file.items (string_bytes told.line)
+ExtractsText Says Refuses bytes (Err fault) = IsNoExtract Refuses bytes fault
 
 -- Ok: the text and the line. A write fault: the first `written` bytes of both. Otherwise nothing, and why there is no text.
-abbrev pub ExtractsFile : List ℕ → ℕ → Option (List ℕ) → Option (List ℕ) → Option (List ℕ) → Option (List ℕ) → Result ℕ ExtractionFault → Type 0
-ExtractsFile bytes lines file_old file_new old new (Ok status) =
-    (status ≡ 0) × ((text line : List ℕ) × IsExtracting bytes lines text line × WritesBoth text line file_old file_new old new (Ok status))
-ExtractsFile bytes lines file_old file_new old new (Err (Tool (Files (Write written)))) =
-    (text line : List ℕ) × IsExtracting bytes lines text line × WritesBoth {T = ℕ} text line file_old file_new old new (Err (Write written))
-ExtractsFile bytes lines file_old file_new old new (Err fault) = IsNoExtract bytes lines fault × Keeps file_old file_new × Keeps old new
+abbrev pub ExtractsFile : (List (List ℕ) → List ℕ → List ℕ → Type 0) → (List (List ℕ) → ExtractFault → Type 0) → List ℕ →
+    Option (List ℕ) → Option (List ℕ) → Option (List ℕ) → Option (List ℕ) → Result ℕ ExtractionFault → Type 0
+ExtractsFile Says Refuses bytes file_old file_new old new (Ok status) =
+    (status ≡ 0) × ((text line : List ℕ) × IsExtracting Says bytes text line × WritesBoth text line file_old file_new old new (Ok status))
+ExtractsFile Says Refuses bytes file_old file_new old new (Err (Tool (Files (Write written)))) =
+    (text line : List ℕ) × IsExtracting Says bytes text line × WritesBoth {T = ℕ} text line file_old file_new old new (Err (Write written))
+ExtractsFile Says Refuses bytes file_old file_new old new (Err fault) = IsNoExtract Refuses bytes fault × Keeps file_old file_new × Keeps old new
 
 -- the fault of a write
 abbrev pub is_extraction_write : ExtractionFault → Bool

@@ -9,7 +9,7 @@ use Rattle.std.specs.Io.KnownBytes.{Appends, Keeps}
 use Rattle.ttx_cycle.specs.Files.{IsPacketFile}
 use Rattle.ttx_files.specs.declared.faults.FilesFault.TheVariants.{Write}
 use Rattle.ttx_source.specs.Services.{ServiceFields, pages_of}
-use Rattle.ttx_extract.specs.Extracts.{IsExtract}
+use Rattle.ttx_extract.specs.Extracts.{IsExtract, AnswersFault}
 use Rattle.ttx_possible.specs.Values.{NoneHas, AreFirst}
 use Rattle.ttx_possible.specs.Lines.{values_line}
 use Rattle.ttx_possible.specs.declared.line_values.Values.{Values}
@@ -37,11 +37,11 @@ pub record IsNaming (bytes : List ℕ) (line : List ℕ) : Type 0 where
 
 abbrev pub NamesText : List ℕ → Result (String Global) ExtractionFault → Type 0
 NamesText bytes (Ok line) = IsNaming bytes (string_bytes line)
-NamesText bytes (Err fault) = IsNoExtract bytes 1 fault
+NamesText bytes (Err fault) = IsNoExtract (λ slots. AnswersFault slots 1) bytes fault
 
 -- Ok: the line, and status 1. A write fault: its first `written` bytes. Otherwise nothing, and why there is no line.
 abbrev pub NamesLines : List ℕ → Option (List ℕ) → Option (List ℕ) → Result ℕ ExtractionFault → Type 0
 NamesLines bytes old new (Ok status) = (status ≡ 1) × ((line : List ℕ) × IsNaming bytes line × Appends old new line)
 NamesLines bytes old new (Err (Tool (Files (Write written)))) =
     (line : List ℕ) × IsNaming bytes line × (written < length line) × Appends old new (take written line)
-NamesLines bytes old new (Err fault) = IsNoExtract bytes 1 fault × Keeps old new
+NamesLines bytes old new (Err fault) = IsNoExtract (λ slots. AnswersFault slots 1) bytes fault × Keeps old new

@@ -4,7 +4,7 @@
 --   no_memory               the error of a failed allocation
 --   IsFaultBy, DefinesBy    why there is no service with promises, by how both are read, and what is returned
 --   IsPromisedFault, DefinesPromised        the same for a text
---   IsNoPromisedText, ReadsPromised         the same for a text that is read
+--   IsNoPromisedText, ReadsDefined          the same for a text that is read
 --   IsNoPromisedInput, ReadsPromisedInputs  the same for a packet file and a text
 use Rattle.std.specs.Prelude.{◌≡◌, ◌⊎◌, ℕ, ◌≤◌, List, map, length, ⊤, Result, Ok, Err}
 use Rattle.ttx_cycle.specs.Bounded.{most_bytes}
@@ -21,6 +21,7 @@ use Rattle.ttx_source.specs.Values.{Fault}
 use Rattle.ttx_source.specs.declared.faults.SourceError.{SourceError}
 use Rattle.ttx_source.specs.declared.faults.SourceFault.TheVariants as source
 use Rattle.ttx_tool.specs.Plan.{IsNoText}
+use Rattle.ttx_tool.specs.declared.commands.promised.Defined.{Defined}
 use Rattle.ttx_tool.specs.declared.commands.promised.Promised.{Promised}
 use Rattle.ttx_tool.specs.declared.commands.promised.PromisedInputs.{PromisedInputs}
 use Rattle.ttx_tool.specs.declared.faults.ToolFault.{ToolFault}
@@ -54,9 +55,10 @@ abbrev pub IsNoPromisedText : List ℕ → ToolFault → Type 0
 IsNoPromisedText bytes (Files (Service error)) = (length bytes ≤ most_bytes) × IsPromisedFault bytes error
 IsNoPromisedText bytes fault = IsNoText bytes fault
 
-abbrev pub ReadsPromised : List ℕ → Result Promised ToolFault → Type 0
-ReadsPromised bytes (Ok promised) = IsPromisedText bytes promised.service (map promise_view promised.promises.items)
-ReadsPromised bytes (Err fault) = IsNoPromisedText bytes fault
+-- with the bytes of the text
+abbrev pub ReadsDefined : List ℕ → Result Defined ToolFault → Type 0
+ReadsDefined bytes (Ok d) = IsPromisedText bytes d.promised.service (map promise_view d.promised.promises.items) × (d.text.items ≡ bytes)
+ReadsDefined bytes (Err fault) = IsNoPromisedText bytes fault
 
 -- why nothing is read of a packet file and the text of a service with promises
 abbrev pub IsNoPromisedInput : List ℕ → List ℕ → ToolFault → Type 0

@@ -1,6 +1,6 @@
 -- What `report` writes for a packet file, the text of a service and that of a certificate.
 --
---   ReadsDefined, ReadsSealed       what is returned for the text of a service with promises, and of a certificate, with their bytes
+--   ReadsSealed                     what is returned for the text of a certificate, with its bytes
 --   IsNoFiling, ReadsFiling         why the three are not read, and what is returned for them
 --   TellsReport             the report on a cycle, a service and a certificate
 --   IsReporting, ReportsText, ReportsFiles  the report on three files, the answer for them, and what is written for each answer
@@ -22,17 +22,12 @@ use Rattle.ttx_source.specs.PromiseViews.{promise_view}
 use Rattle.ttx_source.specs.Promises.{PromiseFields}
 use Rattle.ttx_source.specs.Services.{ServiceFields}
 use Rattle.ttx_tool.specs.Answers.{verdict_status}
-use Rattle.ttx_tool.specs.Promised.{IsPromisedText, IsNoPromisedText, IsNoPromisedInput}
+use Rattle.ttx_tool.specs.Promised.{IsPromisedText, IsNoPromisedInput}
 use Rattle.ttx_tool.specs.Version.{version_text}
-use Rattle.ttx_tool.specs.declared.commands.report.Defined.{Defined}
 use Rattle.ttx_tool.specs.declared.commands.report.Filed.{Filed}
 use Rattle.ttx_tool.specs.declared.commands.report.Sealed.{Sealed}
 use Rattle.ttx_tool.specs.declared.faults.ToolFault.{ToolFault}
 use Rattle.ttx_tool.specs.declared.faults.ToolFault.TheVariants.{Files}
-
-abbrev pub ReadsDefined : List ℕ → Result Defined ToolFault → Type 0
-ReadsDefined bytes (Ok d) = IsPromisedText bytes d.promised.service (map promise_view d.promised.promises.items) × (d.text.items ≡ bytes)
-ReadsDefined bytes (Err fault) = IsNoPromisedText bytes fault
 
 abbrev pub ReadsSealed : List ℕ → Result Sealed ToolFault → Type 0
 ReadsSealed bytes (Ok s) = IsCertificateText bytes (fields_of s.certificate) × (s.text.items ≡ bytes)

@@ -10,6 +10,8 @@ use ttx_arguments::Lines;
 use ttx_cycle::Counted;
 use ttx_extract::ExtractFault;
 use ttx_kinds::Place;
+use ttx_tool::commands::extract::{self, Extraction, Whole};
+use ttx_tool::commands::extract_partly::Partly;
 use ttx_tool::{ExtractionFault, ToolFault, commands};
 
 fn inspect_input(rt: &HostRuntime, input: Input) -> Result<u8, ToolFault> {
@@ -73,7 +75,7 @@ fn report_refused(rt: &HostRuntime, fault: &ExtractFault) -> Result<u8, ToolFaul
     commands::report_extraction(rt.alloc(), fault, &mut errors)
 }
 
-fn extract_from(
+fn extract_from<E: Extraction>(
     rt: &HostRuntime,
     reader: &mut RecordedInput,
     lines: u8,
@@ -81,23 +83,7 @@ fn extract_from(
 ) -> Result<u8, ToolFault> {
     let mut file = Counted::new(out);
     let mut writer = Counted::new(io::writer(rt));
-    match commands::extract::run(rt.alloc(), reader, lines, &mut file, &mut writer) {
-        Ok(status) => Ok(status),
-        Err(ExtractionFault::Tool(fault)) => Err(fault),
-        Err(ExtractionFault::Refused(fault)) => report_refused(rt, &fault),
-    }
-}
-
-// The same without the pages that no service text can have.
-fn extract_partly_from(
-    rt: &HostRuntime,
-    reader: &mut RecordedInput,
-    lines: u8,
-    out: File,
-) -> Result<u8, ToolFault> {
-    let mut file = Counted::new(out);
-    let mut writer = Counted::new(io::writer(rt));
-    match commands::extract_partly::run(rt.alloc(), reader, lines, &mut file, &mut writer) {
+    match extract::run::<E, _, _, _>(rt.alloc(), reader, lines, &mut file, &mut writer) {
         Ok(status) => Ok(status),
         Err(ExtractionFault::Tool(fault)) => Err(fault),
         Err(ExtractionFault::Refused(fault)) => report_refused(rt, &fault),
@@ -116,9 +102,9 @@ fn extract_with(rt: &HostRuntime, cycle: &str, out: &str, lines: u8, partial: bo
         Err(fault) => return Ok(report(rt, &fault)),
     };
     let answer = if partial {
-        extract_partly_from(rt, &mut reader, lines, file)
+        extract_from::<Partly>(rt, &mut reader, lines, file)
     } else {
-        extract_from(rt, &mut reader, lines, file)
+        extract_from::<Whole>(rt, &mut reader, lines, file)
     };
     Ok(told_of(rt, &reader, status_of(rt, answer)))
 }

@@ -1,7 +1,8 @@
 //! `decompose`: the author's text of a service text.
 
 ghost use Rattle.std.specs.Prelude.{◌∷◌, [], None, IfSome};
-ghost use Rattle.ttx_author_files.specs.Decomposing.{DecomposesFile};
+ghost use Rattle.ttx_author_files.specs.Decomposing.{IsToldBy, IsRefusedService};
+ghost use Rattle.ttx_author_files.specs.Translating.{TranslatesFile};
 ghost use Rattle.ttx_cycle.specs.Counters.{inner_of, faults_of};
 ghost use Rattle.ttx_files.specs.Answers.{IsUntouched};
 ghost use Rattle.ttx_files.specs.Devices.{AtService, input};
@@ -11,7 +12,7 @@ ghost use Rattle.ttx_tool.specs.Devices.{is_tool_write, Fails, written_to};
 use crate::faults::ToolFault;
 use std::alloc::Global;
 use std::io::{Read, Write};
-use ttx_author_files::decompose_file;
+use ttx_author_files::{Decompose, translate_file};
 use ttx_cycle::Counted;
 
 /// Reads the text of a service with this name, of at most 4,194,304 bytes, and writes the author's text of it; then the number of its
@@ -26,12 +27,12 @@ pub fn run<R: Read, O: Write, W: Write>(
     file: &mut Counted<O>,
     writer: &mut Counted<W>,
 ) -> Result<u8, ToolFault>
-    ensures bytes { IsAnswered (λ status. status) (λ answer. IfSome (R.remaining (inner_of reader.old)) (λ bytes. DecomposesFile name.now bytes
-        (O.contents (inner_of file.old)) (O.contents (inner_of file.new)) (W.contents (inner_of writer.old)) (W.contents (inner_of writer.new))
-        answer)) result }
+    ensures bytes { IsAnswered (λ status. status) (λ answer. IfSome (R.remaining (inner_of reader.old)) (λ bytes.
+        TranslatesFile (IsToldBy name.now bytes) (IsRefusedService bytes) bytes (O.contents (inner_of file.old)) (O.contents (inner_of file.new))
+        (W.contents (inner_of writer.old)) (W.contents (inner_of writer.new)) answer)) result }
     ensures faults { Fails (input AtService None (faults_of reader.old) (faults_of reader.new) ∷ written_to file.old file.new
         ∷ written_to writer.old writer.new ∷ []) result }
     ensures untouched { IsUntouched is_tool_write result file.old file.new × IsUntouched is_tool_write result writer.old writer.new }
 {
-    Ok(decompose_file(alloc, name, reader, file, writer)?)
+    Ok(translate_file::<Decompose, R, O, W>(alloc, name, reader, file, writer)?)
 }

@@ -3,6 +3,7 @@
 ghost use Rattle.std.specs.Prelude.{◌≡◌, ◌∷◌, [], IfSome, IfOk, IfErr, string_bytes};
 ghost use Rattle.ttx_cycle.specs.Counters.{inner_of, faults_of};
 ghost use Rattle.ttx_cycle.specs.Cycles.{slots_of};
+ghost use Rattle.ttx_extract.specs.Extracts.{AnswersFault};
 ghost use Rattle.ttx_files.specs.Answers.{IsUntouched};
 ghost use Rattle.ttx_files.specs.Devices.{AtCycle, input, output, IsRight};
 ghost use Rattle.ttx_possible.specs.Lines.{values_line};
@@ -35,7 +36,7 @@ fn values_line(alloc: Global, values: Option<Values>) -> Result<String, AllocErr
 // The line about the pages of a cycle.
 fn name(alloc: Global, cycle: &Cycle, extracted: &Extracted) -> Result<String, ExtractionFault>
     ensures named { IfOk result (λ line. IsNamedOf (slots_of cycle.now) extracted.now.service (string_bytes line)) }
-    ensures fault { IfErr result (IsExtractFault (slots_of cycle.now) 1) }
+    ensures fault { IfErr result (IsExtractFault (AnswersFault (slots_of cycle.now) 1)) }
 {
     let Ok(found) = first_values(alloc, cycle, &extracted.service) else {
         return Err(ExtractionFault::Tool(ToolFault::Files(FilesFault::NoMemory)));
@@ -49,7 +50,7 @@ fn name(alloc: Global, cycle: &Cycle, extracted: &Extracted) -> Result<String, E
 // The line about a cycle.
 fn tell(alloc: Global, cycle: &Cycle) -> Result<String, ExtractionFault>
     ensures named { IfOk result (λ line. IsNamed (slots_of cycle.now) (string_bytes line)) }
-    ensures fault { IfErr result (IsExtractFault (slots_of cycle.now) 1) }
+    ensures fault { IfErr result (IsExtractFault (AnswersFault (slots_of cycle.now) 1)) }
 {
     match ttx_extract::extract(alloc, cycle, ANY_LINES) {
         Ok(extracted) => name(alloc, cycle, &extracted),

@@ -7,7 +7,7 @@ ghost use Rattle.ttx_files.specs.Devices.{AtCycle, AtService};
 ghost use Rattle.ttx_source.specs.Promises.{promises_of};
 ghost use Rattle.ttx_source.specs.Services.{service_of};
 ghost use Rattle.ttx_tool.specs.Devices.{Reads, read_from};
-ghost use Rattle.ttx_tool.specs.Promised.{DefinesBy, DefinesPromised, ReadsPromised, ReadsPromisedInputs};
+ghost use Rattle.ttx_tool.specs.Promised.{DefinesBy, DefinesPromised, ReadsDefined, ReadsPromisedInputs};
 
 use crate::faults::ToolFault;
 use std::alloc::Global;
@@ -22,6 +22,13 @@ use ttx_source::{Promise, Service, SourceError, promises_of_table, read_table, s
 pub(super) struct Promised {
     pub service: Service,
     pub promises: Vec<Promise>,
+}
+
+/// A service with its promises, and its text.
+#[derive(Drop)]
+pub(super) struct Defined {
+    pub promised: Promised,
+    pub text: Vec<u8>,
 }
 
 /// A cycle, and a service with its promises.
@@ -40,8 +47,8 @@ pub(super) fn define_table(alloc: Global, table: &Table) -> Result<Promised, Sou
     Ok(Promised { service, promises })
 }
 
-/// The service and the promises of a text.
-pub(super) fn define(alloc: Global, text: &[u8]) -> Result<Promised, SourceError>
+// The service and the promises of a text.
+fn define(alloc: Global, text: &[u8]) -> Result<Promised, SourceError>
     ensures { DefinesPromised text.now result }
 {
     let table = read_table(alloc, text)?;
@@ -49,11 +56,11 @@ pub(super) fn define(alloc: Global, text: &[u8]) -> Result<Promised, SourceError
 }
 
 /// Reads the text of a service with its promises. A fault of the service comes before one of the promises.
-pub(super) fn read_promised<R: Read>(
+pub(super) fn read_defined<R: Read>(
     alloc: Global,
     reader: &mut Counted<R>,
-) -> Result<Promised, ToolFault>
-    ensures bytes { IfSome (R.remaining (inner_of reader.old)) (λ bytes. ReadsPromised bytes result) }
+) -> Result<Defined, ToolFault>
+    ensures bytes { IfSome (R.remaining (inner_of reader.old)) (λ bytes. ReadsDefined bytes result) }
     ensures faults { Reads (read_from AtService R.remaining reader.old reader.new ∷ []) result }
 {
     let text = match read_service_text(alloc, reader) {
@@ -61,7 +68,7 @@ pub(super) fn read_promised<R: Read>(
         Err(fault) => return Err(ToolFault::Files(fault)),
     };
     match define(alloc, text.as_slice()) {
-        Ok(promised) => Ok(promised),
+        Ok(promised) => Ok(Defined { promised, text }),
         Err(error) => Err(ToolFault::Files(FilesFault::Service(error))),
     }
 }
@@ -77,8 +84,8 @@ pub(super) fn read_promised_inputs<A: Read, B: Read>(
     ensures faults { Reads (read_from AtCycle A.remaining cycle.old cycle.new ∷ read_from AtService B.remaining service.old service.new ∷ []) result }
 {
     let cycle = read_packets(alloc, cycle)?;
-    match read_promised(alloc, service) {
-        Ok(promised) => Ok(PromisedInputs { cycle, promised }),
+    match read_defined(alloc, service) {
+        Ok(Defined { promised, text: _ }) => Ok(PromisedInputs { cycle, promised }),
         Err(fault) => Err(fault),
     }
 }

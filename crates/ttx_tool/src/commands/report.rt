@@ -10,10 +10,10 @@ ghost use Rattle.ttx_report.specs.Files.{marks_view};
 ghost use Rattle.ttx_source.specs.PromiseViews.{promise_view};
 ghost use Rattle.ttx_tool.specs.Devices.{is_tool_write, Fails, Reads, read_from, written_to};
 ghost use Rattle.ttx_tool.specs.Reports.{Reports};
-ghost use Rattle.ttx_tool.specs.Report.{ReadsDefined, ReadsSealed, ReadsFiling, TellsReport, ReportsText, ReportsFiles};
+ghost use Rattle.ttx_tool.specs.Report.{ReadsSealed, ReadsFiling, TellsReport, ReportsText, ReportsFiles};
 
 use super::certify::Status;
-use super::promised::{Promised, define};
+use super::promised::{Promised, read_defined};
 use super::reports::write_text;
 use super::version::VERSION;
 use crate::faults::ToolFault;
@@ -21,16 +21,9 @@ use std::alloc::Global;
 use std::io::{Read, Write};
 use ttx_certificate::{Certificate, read_certificate};
 use ttx_cycle::{Counted, Cycle, TextFault};
-use ttx_files::{FilesFault, TextFile, Told, read_packets, read_service_text, read_text};
+use ttx_files::{FilesFault, TextFile, Told, read_packets, read_text};
 use ttx_report::{Filing, Imprint, Marks, marks_of, report};
 use ttx_witness::NoMemory;
-
-// A service with its promises, and its text.
-#[derive(Drop)]
-struct Defined {
-    promised: Promised,
-    text: Vec<u8>,
-}
 
 // A certificate, and its text.
 #[derive(Drop)]
@@ -46,21 +39,6 @@ struct Filed {
     promised: Promised,
     certificate: Certificate,
     marks: Marks,
-}
-
-// Reads the text of a service with its promises.
-fn read_defined<R: Read>(alloc: Global, reader: &mut Counted<R>) -> Result<Defined, ToolFault>
-    ensures bytes { IfSome (R.remaining (inner_of reader.old)) (λ bytes. ReadsDefined bytes result) }
-    ensures faults { Reads (read_from AtService R.remaining reader.old reader.new ∷ []) result }
-{
-    let text = match read_service_text(alloc, reader) {
-        Ok(text) => text,
-        Err(fault) => return Err(ToolFault::Files(fault)),
-    };
-    match define(alloc, text.as_slice()) {
-        Ok(promised) => Ok(Defined { promised, text }),
-        Err(error) => Err(ToolFault::Files(FilesFault::Service(error))),
-    }
 }
 
 // Reads the text of a certificate.

@@ -1,14 +1,19 @@
-use Rattle.std.proofs.Common.{refl, arith}
+use Rattle.std.proofs.Common.{◌∙◌, ◌++◌, ◌∷◌, [], ap, codes, refl, string_bytes, true}
+use Rattle.ttx_mistakes.specs.LongLines.{first_lines, lines_at}
 use Rattle.ttx_mistakes.proofs.long_reports.toml_report.Goals as goal
 
 pub returns : goal.returns
-returns c = (
-  record {
-    place = c.in-Some.span.start;
-    words = c.message.result.now;
-    within = (let r = c.in-Some.ensures.range in let s = c.in-Err.ensures.span in
-        let a = r.0 in let b = s.0 in let d = s.1 in omega arith);
-    says = c.in_ok-text.ensures;
-  },
-  refl,
-)
+returns c =
+    let file = c.args.file.now in
+    let bytes = c.args.bytes.now in
+    let m = c.in_ok-mistake.mistake in (
+      record {
+        place = m.place;
+        words = string_bytes m.words;
+        first = m.first;
+        mistake = c.in_ok-mistake.ensures;
+        says = c.in_ok-text.ensures
+            ∙ ap (λ w. lines_at file bytes m.place true w ++ first_lines file bytes m.first ++ codes "1 error, 0 warnings" ++ 10 ∷ []) c.as_bytes.ensures.value;
+      },
+      refl,
+    )

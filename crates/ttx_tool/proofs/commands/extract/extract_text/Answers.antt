@@ -6,4 +6,4 @@ use Rattle.ttx_tool.proofs.commands.extract.extract_text.Goals as goal
 pub returns-in-Ok-tell-clause-bytes : goal.returns-in-Ok-tell-clause-bytes
 returns-in-Ok-tell-clause-bytes g c =
     IfSome_then (g.R.Read.remaining (inner_of c.args.reader.now)) c.in-Ok.ensures.bytes
-    (λ bytes is. record { slots = slots_of c.in-Ok.cycle; cycle_is = is; told = c.in-Ok-tell.ensures.told })
+    (λ bytes is. (slots_of c.in-Ok.cycle, is, c.in-Ok-tell.ensures.told))

@@ -2,7 +2,7 @@ use Rattle.std.proofs.Common.{ap, ◌∙◌, length}
 use Rattle.ttx_cycle.specs.Cycles.{slots_of}
 use Rattle.ttx_partial.specs.Others.{others}
 use Rattle.ttx_partial.specs.Lines.{partial_lines}
-use Rattle.ttx_tool.proofs.commands.extract_partly.tell.Goals as goal
+use Rattle.ttx_tool.proofs.commands.extract_partly.PartlyExtraction.tell.Goals as goal
 
 pub returns-in-Ok-partial_lines-clause-told : goal.returns-in-Ok-partial_lines-clause-told
 returns-in-Ok-partial_lines-clause-told c =

@@ -1,0 +1,9 @@
+use Rattle.ttx_cycle.specs.Counters.{inner_of}
+use Rattle.ttx_tool.proofs.Devices.{service_read}
+use Rattle.ttx_tool.proofs.commands.promised.read_defined.Goals as goal
+
+pub returns-in-Ok-define-clause-faults : goal.returns-in-Ok-define-clause-faults
+returns-in-Ok-define-clause-faults g c =
+    let right = service_read (g.R.Read.remaining (inner_of c.args.reader.now)) c.in-Ok.text.items c.as_slice.result.now
+    c.in-Ok-define.promised.service c.in-Ok.ensures.bytes c.as_slice.ensures.value c.in-Ok-define.ensures.0 in
+    (c.in-Ok.ensures.faults, (right, tt))
