@@ -55,6 +55,7 @@ ROWS = [
     Row("`wait`, the same", f"wait {SENT}"),
     Row("`report`, the same", f"report {SENT} sent.cert out"),
     Row("`certify`, 50,000 named starts, repeat 8", "certify blank-65536.t42 blank.toml blank.cert"),
+    Row("`certify --twice`, the same", "certify blank-65536.t42 blank.toml blank.cert --twice"),
     Row("`splice`, 2,000 common pages, 65,536 slots", "splice 65536.t42 65536.t42 sent.toml sent.toml sent.cert sent.cert",
         beside=(f"ttx certify {SENT} sent.cert",), ratio=4),
     Row("`refute`, 2,000 pages sent unchanged", f"refute {SENT} sent.cert", most=2000),
