@@ -1,6 +1,6 @@
 //! `compose`: the service text of an author's text, or its mistakes.
 
-ghost use Rattle.std.specs.Prelude.{◌∷◌, [], None, ⊥, IfSome};
+ghost use Rattle.std.specs.Prelude.{◌∷◌, [], None, IfSome};
 ghost use Rattle.ttx_author_files.specs.Composing.{IsToldBy};
 ghost use Rattle.ttx_author_files.specs.Translating.{TranslatesFile};
 ghost use Rattle.ttx_cycle.specs.Counters.{inner_of, faults_of};

@@ -38,8 +38,6 @@ pub struct Question {
     pub numbers: bool,
     /// Whether the answer is written as JSON objects.
     pub json: bool,
-    ghost some: { 1 ≤ repeat },
-    ghost few: { repeat ≤ 8 },
 }
 
 // 0 if there is a deadline, otherwise 1.
@@ -59,6 +57,8 @@ fn tell(
     service: &Service,
     question: Question,
 ) -> Result<Told<u8>, NoMemory>
+    requires some { 1 ≤ question.repeat }
+    requires few { question.repeat ≤ 8 }
     ensures { IfOk result (λ told. IsWaitOf (slots_of cycle.now) service.now question.repeat question.class question.detail
         (string_bytes told.line) told.verdict) }
 {
@@ -111,6 +111,8 @@ fn tell_promised(
     promised: &Promised,
     question: Question,
 ) -> Result<Told<u8>, NoMemory>
+    requires some { 1 ≤ question.repeat }
+    requires few { question.repeat ≤ 8 }
     ensures { IfOk result (λ told. IsPromisedWaitOf (slots_of cycle.now) promised.now.service (map promise_view promised.now.promises.items)
         question.repeat question.class (string_bytes told.line) told.verdict) }
 {
@@ -132,6 +134,8 @@ fn tell_beside(
     promised: &Promised,
     question: Question,
 ) -> Result<Told<u8>, NoMemory>
+    requires some { 1 ≤ question.repeat }
+    requires few { question.repeat ≤ 8 }
     ensures { IfOk result (λ told. IsWaitBeside (shows_promises (length promised.now.promises.items) question.detail) (slots_of cycle.now)
         promised.now.service (map promise_view promised.now.promises.items) question.repeat question.class question.detail
         (string_bytes told.line) told.verdict) }
@@ -161,6 +165,8 @@ fn tell_numbers(
     inputs: &PromisedInputs,
     question: Question,
 ) -> Result<Told<u8>, NoMemory>
+    requires some { 1 ≤ question.repeat }
+    requires few { question.repeat ≤ 8 }
     ensures { IfOk result (λ told. IsNumbersWaitOf (shows_promises (length inputs.now.promised.promises.items) question.detail)
         (slots_of inputs.now.cycle) inputs.now.promised.service (map promise_view inputs.now.promised.promises.items) question.repeat
         question.class question.detail (string_bytes told.line) told.verdict) }
@@ -176,6 +182,8 @@ fn tell_pages(
     inputs: &PromisedInputs,
     question: Question,
 ) -> Result<Told<u8>, NoMemory>
+    requires some { 1 ≤ question.repeat }
+    requires few { question.repeat ≤ 8 }
     ensures { IfOk result (λ told. IsWaitRecordOf (slots_of inputs.now.cycle) inputs.now.promised.service
         (map promise_view inputs.now.promised.promises.items) question.repeat question.class (string_bytes told.line) told.verdict) }
 {
@@ -196,6 +204,8 @@ fn tell_items(
     inputs: &PromisedInputs,
     question: Question,
 ) -> Result<Told<u8>, NoMemory>
+    requires some { 1 ≤ question.repeat }
+    requires few { question.repeat ≤ 8 }
     ensures { IfOk result (λ told. IsItemRecordOf (slots_of inputs.now.cycle) inputs.now.promised.service question.repeat question.class
         (string_bytes told.line) told.verdict) }
 {
@@ -214,6 +224,8 @@ fn tell_records(
     inputs: &PromisedInputs,
     question: Question,
 ) -> Result<Told<u8>, NoMemory>
+    requires some { 1 ≤ question.repeat }
+    requires few { question.repeat ≤ 8 }
     ensures { IfOk result (λ told. IsRecordOf question.detail (slots_of inputs.now.cycle) inputs.now.promised.service
         (map promise_view inputs.now.promised.promises.items) question.repeat question.class (string_bytes told.line) told.verdict) }
 {
@@ -229,6 +241,8 @@ fn tell_number_records(
     inputs: &PromisedInputs,
     question: Question,
 ) -> Result<Told<u8>, NoMemory>
+    requires some { 1 ≤ question.repeat }
+    requires few { question.repeat ≤ 8 }
     ensures { IfOk result (λ told. IsNumbersRecordOf (slots_of inputs.now.cycle) inputs.now.promised.service
         (map promise_view inputs.now.promised.promises.items) question.repeat question.class question.detail (string_bytes told.line)
         told.verdict) }
@@ -244,6 +258,8 @@ fn tell_asked(
     inputs: &PromisedInputs,
     question: Question,
 ) -> Result<Told<u8>, NoMemory>
+    requires some { 1 ≤ question.repeat }
+    requires few { question.repeat ≤ 8 }
     ensures { IfOk result (λ told. IsWaitAsked question (shows_promises (length inputs.now.promised.promises.items) question.detail)
         (slots_of inputs.now.cycle) inputs.now.promised.service (map promise_view inputs.now.promised.promises.items)
         (string_bytes told.line) told.verdict) }
@@ -263,6 +279,8 @@ fn wait_text<A: Read, B: Read>(
     service: &mut Counted<B>,
     question: Question,
 ) -> Result<Told<u8>, ToolFault>
+    requires some { 1 ≤ question.repeat }
+    requires few { question.repeat ≤ 8 }
     ensures bytes { IfSome (A.remaining (inner_of cycle.old))
         (λ a. IfSome (B.remaining (inner_of service.old)) (λ b. WaitsText a b question result)) }
     ensures faults { Reads (read_from AtCycle A.remaining cycle.old cycle.new ∷ read_from AtService B.remaining service.old service.new ∷ []) result }
@@ -291,6 +309,8 @@ pub fn run<A: Read, B: Read, W: Write>(
     question: Question,
     writer: &mut Counted<W>,
 ) -> Result<u8, ToolFault>
+    requires some { 1 ≤ question.repeat }
+    requires few { question.repeat ≤ 8 }
     ensures bytes { IfSome (A.remaining (inner_of cycle.old)) (λ a. IfSome (B.remaining (inner_of service.old)) (λ b. Waits a b question
         (W.contents (inner_of writer.old)) (W.contents (inner_of writer.new)) result)) }
     ensures faults { Fails (read_from AtCycle A.remaining cycle.old cycle.new ∷ read_from AtService B.remaining service.old service.new
