@@ -31,8 +31,6 @@ ttx:
 
 test:
 	RT_JOBS=$(JOBS) python3 tools/progress.py out/test.log rt ci
-	python3 tools/refusals.py out/test.log
-	python3 tools/edits.py --joined --jobs $(JOBS)
 	$(MAKE) --no-print-directory --jobs $$(nproc) --output-sync $(SCRIPTS)
 
 $(filter %.py,$(SCRIPTS)):
