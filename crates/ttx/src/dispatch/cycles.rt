@@ -10,7 +10,7 @@ use ttx_arguments::Lines;
 use ttx_cycle::Counted;
 use ttx_extract::ExtractFault;
 use ttx_kinds::Place;
-use ttx_tool::commands::extract::{self, Extraction, Whole};
+use ttx_tool::commands::extract::{Extraction, Whole};
 use ttx_tool::commands::extract_partly::Partly;
 use ttx_tool::{ExtractionFault, ToolFault, commands};
 
@@ -83,7 +83,7 @@ fn extract_from<E: Extraction>(
 ) -> Result<u8, ToolFault> {
     let mut file = Counted::new(out);
     let mut writer = Counted::new(io::writer(rt));
-    match extract::run::<E, _, _, _>(rt.alloc(), reader, lines, &mut file, &mut writer) {
+    match commands::extract::run::<E, _, _, _>(rt.alloc(), reader, lines, &mut file, &mut writer) {
         Ok(status) => Ok(status),
         Err(ExtractionFault::Tool(fault)) => Err(fault),
         Err(ExtractionFault::Refused(fault)) => report_refused(rt, &fault),
