@@ -26,7 +26,7 @@ mod sent;
 mod wait_times;
 
 pub use faults::bad_slots::bad_slot;
-pub use faults::other_subpages::{OtherSubpages, first_of, none_told, note_slot};
+pub use faults::other_subpages::{OtherSubpages, first_of, none_told, note_other};
 pub use faults::page_faults::{fault_of, page_fault};
 pub use faults::reason::{PageFault, Reason};
 pub use faults::wrong_slots::{Check, is_wrong, same_links};
@@ -40,6 +40,7 @@ pub use search::certificates::{Found, faults_in, find, find_for, find_in};
 pub use search::survey::Survey;
 pub use sent::collected::Collected;
 pub use sent::collection::{collect, collect_after};
+pub use sent::indexed_headers::{IndexedHeader, indexed_header};
 pub use sent::one_slot;
 pub use sent::owners::{Owner, note_owner};
 pub use sent::packets::{header_in, heads_page, mine_after, row_in, sends};

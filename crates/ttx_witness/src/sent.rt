@@ -2,6 +2,7 @@
 
 pub mod collected;
 pub mod collection;
+pub mod indexed_headers;
 pub mod one_slot;
 pub mod owners;
 pub mod packets;

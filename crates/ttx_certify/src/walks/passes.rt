@@ -17,7 +17,7 @@ use ttx_certificate::{Certificate, limit};
 use ttx_packet::clean;
 use ttx_page::Page;
 use ttx_witness::one_slot::sent_in_slot;
-use ttx_witness::{Owner, PageIndex, first_of, note_owner};
+use ttx_witness::{Owner, PageIndex, first_of, indexed_header, note_owner};
 
 /// Why a walk refuses a slot.
 #[derive(Clone, Copy, PartialEq, Eq, Debug, Error)]
@@ -68,12 +68,13 @@ fn take_slot(walk: &mut Walk, slot: &[u8; 42])
         limit(walk.certificate),
         walk.certificate.lines(),
     );
-    let sent = sent_in_slot(&walk.owners, &walk.index, slot, j as i32, lines);
+    let header = indexed_header(&walk.index, slot);
+    let sent = sent_in_slot(&walk.owners, &header, slot, j as i32, lines);
     walk.sent.note(sent);
     let numbered = NumberedSlot { bytes: slot, at: j };
     note_sent(&mut walk.facts, walk.pages, sent, &numbered, limit);
-    note_other_header(&mut walk.others, slot, j);
-    note_owner(&mut walk.owners, &walk.index, slot, j as i32);
+    note_other_header(&mut walk.others, &header, j);
+    note_owner(&mut walk.owners, &header, j as i32);
     walk.count += 1;
 }
 
@@ -92,7 +93,8 @@ impl<'a> Walk<'a> {
         if self.count >= 65536 {
             return Err(WalkFault::TooLong);
         }
-        note_owner(&mut self.owners, &self.index, slot, self.count as i32);
+        let header = indexed_header(&self.index, slot);
+        note_owner(&mut self.owners, &header, self.count as i32);
         self.count += 1;
         Ok(())
     }

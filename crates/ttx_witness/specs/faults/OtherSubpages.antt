@@ -3,12 +3,12 @@
 --   Subcodes, with_subcode  the subcodes of the listed pages of a number: none, one, or several
 --   place                   the index of a page number in such a table
 --   IsListed, AreSubcodes, AreAllSubcodes   a page among the first ones of a list; their subcodes for a number, and for all numbers
---   heads_other, HeadsOtherAt     a header of a number that has one listed subcode, with another subcode
+--   is_other_id, heads_other, HeadsOtherAt     a header of a number that has one listed subcode, with another subcode
 --   first_of, TellsBelow    the first slot so far where a property holds
 --   AreOtherHeaders, AreOtherSubpages     the first slots for each number, and for each page
 use Rattle.std.specs.Prelude.{◌≡◌, ℕ, ◌+◌, ◌-◌, ◌*◌, ◌<◌, ◌≤◌, ℤ, pos, Bool, true, false, not, ◌&&◌, ◌==◌, if◌then◌else◌, List, get_or}
 use Rattle.std.specs.Prelude.{slice_get, Option, Some, None}
-use Rattle.ttx_header.specs.Ids.{IsId}
+use Rattle.ttx_header.specs.Ids.{Id, IsId}
 use Rattle.ttx_page.specs.Packets.{Packet, Header, packet_of}
 use Rattle.ttx_page.specs.Pages.{Page}
 use Rattle.ttx_page.specs.Streams.{Stream, repeated}
@@ -51,9 +51,12 @@ is_other Unlisted sub = false
 is_other (One own) sub = not (own == sub)
 is_other Several sub = false
 
+-- an id with this number, which has one listed subcode, and another subcode
+abbrev pub is_other_id : List Subcodes → ℕ → ℕ → Id → Bool
+is_other_id table mag number id = (mag == id.mag) && (number == id.page) && is_other (get_or table (place mag number) Unlisted) id.sub
+
 abbrev pub heads_other : List Subcodes → ℕ → ℕ → Packet → Bool
-heads_other table mag number (Header id control text) = (mag == id.mag) && (number == id.page)
-    && is_other (get_or table (place mag number) Unlisted) id.sub
+heads_other table mag number (Header id control text) = is_other_id table mag number id
 heads_other table mag number packet = false
 
 abbrev pub HeadsOtherAt : List Subcodes → Stream → ℕ → ℕ → ℤ → Type 0

@@ -10,7 +10,7 @@ ghost use Rattle.ttx_witness.specs.faults.Faults.{AreFirst, IsPageFault};
 ghost use Rattle.ttx_witness.specs.faults.FirstSlots.{earlier, noted, RowWrong, IsAfter, none_yet};
 
 use crate::faults::reason::Reason;
-use crate::faults::wrong_slots::{Check, is_wrong};
+use crate::faults::wrong_slots::{Check, HeadFaults, head_faults, is_wrong};
 use ttx_header::PageId;
 use ttx_page::{Item, Page, RowNumber, needed};
 
@@ -64,6 +64,21 @@ fn sends_wrong(page: &Page, check: &Check, slot: &[u8; 42], sent: bool) -> bool
     sent && is_wrong(page, check, slot)
 }
 
+// How the slot differs from the page's header, if it sends one. `sent` says whether it does.
+fn sent_head_faults(page: &Page, slot: &[u8; 42], sent: bool) -> HeadFaults
+    ensures erases { IsTrue result.erases ↔ ((sent ≡ true) × IsWrong (page_of page.now) Check.EraseBit slot.now) }
+    ensures differs { IsTrue result.differs ↔ ((sent ≡ true) × IsWrong (page_of page.now) Check.Head slot.now) }
+{
+    if sent {
+        head_faults(page, slot)
+    } else {
+        HeadFaults {
+            erases: false,
+            differs: false,
+        }
+    }
+}
+
 // Whether the slot differs from the page in the row with this number, and a viewer sees the row.
 fn is_row_wrong(page: &Page, number: u8, slot: &[u8; 42]) -> bool
     ensures { IsTrue result ↔ RowWrong (page_of page.now) (λ item. item_number item == number) slot.now }
@@ -79,45 +94,15 @@ fn after_item(first: FirstSlots, page: &Page, number: u8, slot: &[u8; 42], at: u
     ensures { IsAfter (page_of page.now) (λ item. item_number item == number) slot.now at first result }
 {
     let (is_head, is_links) = (0 == number, 25 == number);
-    let erased = sends_wrong(page, &Check::EraseBit, slot, is_head);
-    let head = sends_wrong(page, &Check::Head, slot, is_head);
+    let head = sent_head_faults(page, slot, is_head);
     let links = sends_wrong(page, &Check::Links, slot, is_links);
     FirstSlots {
         has_header: first.has_header || is_head,
         other_subpage: first.other_subpage,
-        erased: noted(first.erased, erased, at),
-        head: noted(first.head, head, at),
+        erased: noted(first.erased, head.erases, at),
+        head: noted(first.head, head.differs, at),
         row: noted(first.row, is_row_wrong(page, number, slot), at),
         links: noted(first.links, links, at),
-    }
-}
-
-// The first slots after slot `at`, which sends row `number` of the page. Only that of the rows can change.
-fn after_row(first: FirstSlots, page: &Page, number: u8, slot: &[u8; 42], at: u32) -> FirstSlots
-    requires above { 0 < number }
-    requires below { number < 25 }
-    ensures { IsAfter (page_of page.now) (λ item. item_number item == number) slot.now at first result }
-{
-    FirstSlots {
-        row: noted(first.row, is_row_wrong(page, number, slot), at),
-        ..first
-    }
-}
-
-/// The first slots after slot `at`, which sends item `number` of the page.
-pub fn after_slot(
-    first: FirstSlots,
-    page: &Page,
-    number: u8,
-    slot: &[u8; 42],
-    at: u32,
-) -> FirstSlots
-    ensures { IsAfter (page_of page.now) (λ item. item_number item == number) slot.now at first result }
-{
-    if 0 < number && number < 25 {
-        after_row(first, page, number, slot, at)
-    } else {
-        after_item(first, page, number, slot, at)
     }
 }
 

@@ -1,12 +1,15 @@
 //! Headers of other subpages, for all pages at once.
 
-ghost use Rattle.std.specs.Prelude.{◌≡◌, ◌<◌, ◌≤◌, ℕ, IfOk, None, get_or, length, map, replicate};
+ghost use Rattle.std.specs.Prelude.{◌≡◌, ◌<◌, ◌≤◌, ℕ, IfOk, List, None, get_or, length, map, replicate};
 ghost use Rattle.ttx_cycle.specs.Cycles.{slots_of};
 ghost use Rattle.ttx_page.specs.Packets.{packet_of};
 ghost use Rattle.ttx_page.specs.Views.{page_of};
-ghost use Rattle.ttx_witness.specs.faults.OtherSubpages.{place, first_of, heads_other, AreOtherHeaders, AreOtherSubpages};
+ghost use Rattle.ttx_header.specs.Ids.{Id};
+ghost use Rattle.ttx_witness.specs.faults.OtherSubpages.{place, first_of, heads_other, is_other_id, AreOtherHeaders, AreOtherSubpages};
+ghost use Rattle.ttx_witness.specs.sent.IndexedHeaders.{IsHeaderOf};
 
 use crate::faults::subcodes::{NUMBERS, Subcodes, is_other, place, subcodes_of};
+use crate::sent::indexed_headers::IndexedHeader;
 use crate::sent::packets::header_in;
 use std::alloc::Global;
 use ttx_certificate::NoMemory;
@@ -30,8 +33,41 @@ pub fn first_of(first: Option<u32>, is: bool, j: u32) -> Option<u32>
     }
 }
 
-/// Notes slot `j` if it is the first header with another subcode than the one that is listed for its number.
-pub fn note_slot(first: &mut Vec<Option<u32>>, subcodes: &[Subcodes], slot: &[u8; 42], j: u32)
+// Notes the header of a page in slot `j` if it is the first one with another subcode than the one that is listed for its number.
+fn note_id(first: &mut Vec<Option<u32>>, subcodes: &[Subcodes], id: PageId, j: u32)
+    requires first { length first.old.items ≡ 2048 }
+    requires subcodes { length subcodes.now ≡ 2048 }
+    ensures size { length first.new.items ≡ 2048 }
+    ensures noted { (mag number : ℕ) → 1 ≤ mag → mag ≤ 8 → number < 256 →
+        get_or first.new.items (place mag number) None
+        ≡ first_of (get_or first.old.items (place mag number) None) (is_other_id subcodes.now mag number id) j }
+{
+    let at = place(id);
+    first[at] = first_of(first[at], is_other(subcodes[at], id.sub()), j);
+}
+
+/// Notes the header in slot `j`, if there is one and it is the first one with another subcode than the one that is listed for its number.
+pub fn note_other(
+    first: &mut Vec<Option<u32>>,
+    subcodes: &[Subcodes],
+    header: &Option<IndexedHeader>,
+    j: u32,
+)
+    requires first { length first.old.items ≡ 2048 }
+    requires subcodes { length subcodes.now ≡ 2048 }
+    ensures size { length first.new.items ≡ 2048 }
+    ensures noted { (ids : List Id) (slot : List ℕ) → IsHeaderOf ids slot header.now →
+        (mag number : ℕ) → 1 ≤ mag → mag ≤ 8 → number < 256 →
+        get_or first.new.items (place mag number) None
+        ≡ first_of (get_or first.old.items (place mag number) None) (heads_other subcodes.now mag number (packet_of slot)) j }
+{
+    if let Some(header) = header {
+        note_id(first, subcodes, header.id, j);
+    }
+}
+
+// The same for the header that is read in the slot.
+fn note_slot(first: &mut Vec<Option<u32>>, subcodes: &[Subcodes], slot: &[u8; 42], j: u32)
     requires first { length first.old.items ≡ 2048 }
     requires subcodes { length subcodes.now ≡ 2048 }
     ensures size { length first.new.items ≡ 2048 }
@@ -39,12 +75,9 @@ pub fn note_slot(first: &mut Vec<Option<u32>>, subcodes: &[Subcodes], slot: &[u8
         get_or first.new.items (place mag number) None
         ≡ first_of (get_or first.old.items (place mag number) None) (heads_other subcodes.now mag number (packet_of slot.now)) j }
 {
-    let Some(header) = header_in(slot) else {
-        return;
-    };
-    let id = header.id();
-    let at = place(id);
-    first[at] = first_of(first[at], is_other(subcodes[at], id.sub()), j);
+    if let Some(header) = header_in(slot) {
+        note_id(first, subcodes, header.id(), j);
+    }
 }
 
 /// A table of all page numbers, without any header yet. `Err` if memory runs out.

@@ -15,7 +15,7 @@ ghost use Rattle.ttx_witness.specs.faults.Faults.{TellsFirst, IsPageFault};
 ghost use Rattle.ttx_witness.specs.faults.FirstSlots.{IsAfter, AreFirstTaken, SentBelow, TakenBelow};
 
 use crate::faults::first_slots::{
-    FirstSlots, after_slot, least_fault, none_yet, with_other_subpage,
+    FirstSlots, least_fault, none_yet, note_item, with_other_subpage,
 };
 use crate::faults::reason::Reason;
 use crate::runs::transmissions::Transmission;
@@ -65,19 +65,12 @@ fn is_mine_at_end(cycle: &Cycle, page: PageId) -> bool
     mine
 }
 
-// The first slots after slot `at`. `sent` is the number of the page's item that the slot sends, if it sends one.
-fn after_sent(
-    first: FirstSlots,
-    page: &Page,
-    sent: Option<u8>,
-    slot: &[u8; 42],
-    at: u32,
-) -> FirstSlots
-    ensures { IsAfter (page_of page.now) (λ item. is_number_of item sent) slot.now at first result }
+// Notes slot `at`. `sent` is the number of the page's item that the slot sends, if it sends one.
+fn note_sent(first: &mut FirstSlots, page: &Page, sent: Option<u8>, slot: &[u8; 42], at: u32)
+    ensures { IsAfter (page_of page.now) (λ item. is_number_of item sent) slot.now at first.old first.new }
 {
-    match sent {
-        Some(number) => after_slot(first, page, number, slot, at),
-        None => first,
+    if let Some(number) = sent {
+        note_item(first, page, number, slot, at);
     }
 }
 
@@ -91,7 +84,7 @@ fn first_in_cycle(cycle: &Cycle, page: &Page, mine: bool) -> FirstSlots
     let (mut mine, mut first) = (mine, none_yet());
     for j in 0..slots.len() {
         let sent = item_sent(page.id(), &slots[j], mine);
-        first = after_sent(first, page, sent, &slots[j], j as u32);
+        note_sent(&mut first, page, sent, &slots[j], j as u32);
         mine = mine_after(page.id(), &slots[j], mine);
     }
     first
@@ -111,45 +104,42 @@ pub fn page_fault(cycle: &Cycle, pages: &[Page], index: usize) -> Option<Reason>
     least_fault(page.id(), with_other_subpage(first, other_subpage))
 }
 
-// The first slots after one more transmission of item `number`.
-fn after_transmission(
-    first: FirstSlots,
+// Notes one more transmission of item `number`.
+fn note_transmission(
+    first: &mut FirstSlots,
     cycle: &Cycle,
     page: &Page,
     number: u8,
     sent: Transmission,
-) -> FirstSlots
+)
     ensures { (j : ℕ) → sent.slot ≡ pos j → j < length (slots_of cycle.now) →
-        IsAfter (page_of page.now) (λ item. item_number item == number) (slice_index_or (slots_of cycle.now) j []) j first result }
+        IsAfter (page_of page.now) (λ item. item_number item == number) (slice_index_or (slots_of cycle.now) j []) j first.old first.new }
 {
     let slots = cycle.slots();
     let Ok(at) = usize::try_from(sent.slot) else {
-        return first;
+        return;
     };
-    if at >= slots.len() {
-        return first;
+    if at < slots.len() {
+        note_item(first, page, number, &slots[at], at as u32);
     }
-    after_slot(first, page, number, &slots[at], at as u32)
 }
 
-// The first slots after all transmissions of item `number` in a period.
-fn after_item(
-    first: FirstSlots,
+// Notes all transmissions of item `number` in a period.
+fn note_all(
+    first: &mut FirstSlots,
     cycle: &Cycle,
     page: &Page,
     number: u8,
     sent: &[Transmission],
-) -> FirstSlots
+)
     ensures { (lines : ℕ) (item : ItemValue) → IsItem item → item_number item ≡ number →
         sent.now ≡ sent_in (slots_of cycle.now) (page_of page.now).id lines item →
-        AreFirstTaken (page_of page.now) (repeated (slots_of cycle.now)) (TakenBelow (slots_of cycle.now) (page_of page.now).id number) first →
-        AreFirstTaken (page_of page.now) (repeated (slots_of cycle.now)) (TakenBelow (slots_of cycle.now) (page_of page.now).id (number + 1)) result }
+        AreFirstTaken (page_of page.now) (repeated (slots_of cycle.now)) (TakenBelow (slots_of cycle.now) (page_of page.now).id number) first.old →
+        AreFirstTaken (page_of page.now) (repeated (slots_of cycle.now)) (TakenBelow (slots_of cycle.now) (page_of page.now).id (number + 1)) first.new }
 {
-    let mut first = first;
     for i in 0..sent.len() {
-        first = after_transmission(first, cycle, page, number, sent[i]);
+        note_transmission(first, cycle, page, number, sent[i]);
     }
-    first
 }
 
 // The first slots of the page among the transmissions that were collected in a period.
@@ -161,7 +151,7 @@ fn first_collected(cycle: &Cycle, page: &Page, collected: &Collected, index: usi
     let mut first = none_yet();
     for number in 0..26u8 {
         let sent = collected.sent(index, item_of(number));
-        first = after_item(first, cycle, page, number, sent);
+        note_all(&mut first, cycle, page, number, sent);
     }
     first
 }

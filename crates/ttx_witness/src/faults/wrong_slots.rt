@@ -10,7 +10,7 @@ ghost use Rattle.ttx_witness.specs.faults.Comparing.{compared_item, IsWrong};
 
 use crate::sent::packets::{header_in, links_in, row_in};
 use ttx_code::is_word;
-use ttx_header::Control;
+use ttx_header::{Control, Header};
 use ttx_links::{Links, Target, read_links};
 use ttx_page::{Item, Page, RowNumber};
 
@@ -94,15 +94,21 @@ fn same_bits(a: Control, b: Control) -> bool
     a.0 / 2 == b.0 / 2
 }
 
+// Whether a header has the page's control bits, except C4, and its characters.
+fn is_headed(page: &Page, header: &Header) -> bool
+    requires { (c : ℕ) → slice_index (page_of page.now).head c < 128 }
+    ensures { IsTrue result ↔ ((header.now.control / 2 ≡ (page_of page.now).control / 2) × (header.now.text ≡ map odd_byte (page_of page.now).head)) }
+{
+    same_bits(header.control(), page.control()) && are_sent(header.text(), page.head())
+}
+
 // Whether the slot is a header with the page's control bits, except C4, and its characters.
 fn is_like_head(page: &Page, slot: &[u8; 42]) -> bool
     ensures { IsTrue result ↔ IsLikeHead (page_of page.now) (packet_of slot.now) }
 {
     ttx_page::laws::pages_keep_their_rules();
     match header_in(slot) {
-        Some(header) => {
-            same_bits(header.control(), page.control()) && are_sent(header.text(), page.head())
-        }
+        Some(header) => is_headed(page, &header),
         None => false,
     }
 }
@@ -169,6 +175,31 @@ fn are_links_right(page: &Page, slot: &[u8; 42]) -> bool
         return false;
     };
     is_exact(slot) && same_links(&links, page.links())
+}
+
+/// How a slot differs from a page's header: it has the erase bit (C4), or other control bits or characters.
+#[derive(Clone, Copy)]
+pub struct HeadFaults {
+    pub erases: bool,
+    pub differs: bool,
+}
+
+/// How the slot differs from the page's header.
+pub fn head_faults(page: &Page, slot: &[u8; 42]) -> HeadFaults
+    ensures erases { IsTrue result.erases ↔ IsWrong (page_of page.now) Check.EraseBit slot.now }
+    ensures differs { IsTrue result.differs ↔ IsWrong (page_of page.now) Check.Head slot.now }
+{
+    ttx_page::laws::pages_keep_their_rules();
+    match header_in(slot) {
+        Some(header) => HeadFaults {
+            erases: header.control().erases_page(),
+            differs: !is_headed(page, &header),
+        },
+        None => HeadFaults {
+            erases: false,
+            differs: true,
+        },
+    }
 }
 
 /// Whether what the slot sends differs from the page.

@@ -11,6 +11,7 @@ ghost use Rattle.ttx_witness.specs.sent.OneSlot.{placed_at};
 
 use crate::runs::transmissions::Transmission;
 use crate::sent::collected::{Collected, Transmissions};
+use crate::sent::indexed_headers::indexed_header;
 use crate::sent::one_slot::{Sent, place_in, sent_in_slot};
 use crate::sent::owners::{entry_owners, note_owner};
 use crate::sent::page_index::{PageIndex, index_of};
@@ -65,11 +66,10 @@ fn fill_lists(
     let slots = cycle.slots();
     let mut owners = entry_owners(index, before);
     for j in 0..slots.len() {
-        add_sent(
-            lists,
-            sent_in_slot(&owners, index, &slots[j], j as i32, lines),
-        )?;
-        note_owner(&mut owners, index, &slots[j], j as i32);
+        let header = indexed_header(index, &slots[j]);
+        let sent = sent_in_slot(&owners, &header, &slots[j], j as i32, lines);
+        add_sent(lists, sent)?;
+        note_owner(&mut owners, &header, j as i32);
     }
     Ok(())
 }

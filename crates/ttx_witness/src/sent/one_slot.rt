@@ -6,13 +6,13 @@ ghost use Rattle.ttx_header.specs.Ids.{Id};
 ghost use Rattle.ttx_page.specs.Packets.{packet_of};
 ghost use Rattle.ttx_page.specs.declared.item.Item.{Item};
 ghost use Rattle.ttx_witness.specs.sent.ItemTransmissions.{sent_under, sent_at};
-ghost use Rattle.ttx_witness.specs.sent.Collected.{IsItem, IsIndex, AreApart, item_number, seen_by, owner_for, is_page};
+ghost use Rattle.ttx_witness.specs.sent.Collected.{IsItem, AreApart, item_number, seen_by, owner_for, is_page};
+ghost use Rattle.ttx_witness.specs.sent.IndexedHeaders.{IsHeaderOf};
 ghost use Rattle.ttx_witness.specs.sent.OneSlot.{sent_of, sends_place};
 
 use crate::runs::transmissions::Transmission;
+use crate::sent::indexed_headers::IndexedHeader;
 use crate::sent::owners::Owner;
-use crate::sent::packets::read_header;
-use crate::sent::page_index::{PageIndex, place_of};
 use ttx_packet::{Slot, slot_of};
 
 /// A transmission of an item: the index of its page in the list of pages, and the number of the item, 0 to 25.
@@ -67,28 +67,25 @@ fn sent_head(page: Option<u32>, j: i32) -> Option<Sent>
     })
 }
 
-/// What slot `j` sends of the items of the pages, with the owners before it. `lines` is the number of slots in a field.
+/// What slot `j` sends of the items of the pages, with the header that is read in it, and the owners before it. `lines` is the number of
+/// slots in a field.
 #[inline(always)]
 pub fn sent_in_slot(
     owners: &[Option<Owner>; 8],
-    index: &PageIndex,
+    header: &Option<IndexedHeader>,
     slot: &[u8; 42],
     j: i32,
     lines: u8,
 ) -> Option<Sent>
     ensures number { IfSome result (λ s. s.number < 26) }
-    ensures sent { (ids : List Id) → IsIndex ids index.now → AreApart ids owners.now → (i : ℕ) (id : Id) (item : Item) →
+    ensures sent { (ids : List Id) → IsHeaderOf ids slot.now header.now → AreApart ids owners.now → (i : ℕ) (id : Id) (item : Item) →
         slice_get ids i ≡ Some id → IsItem item → sent_of i item result ≡ sent_at id lines item j (packet_of slot.now) (owner_for owners.now i id) }
 {
-    ttx_cycle::arrays::is_slot(slot);
     ttx_packet::laws::rows_are_numbered();
-    ttx_header::laws::headers_have_fields();
-    ttx_header::laws::headers_are_headers();
+    if let Some(header) = header {
+        return sent_head(header.page, j);
+    }
     match slot_of(slot) {
-        Slot::Header(_, _) => match read_header(slot) {
-            Some(header) => sent_head(place_of(index, header.id()), j),
-            None => None,
-        },
         Slot::Row(at, _) => sent_under(owners[usize::from(at.mag) - 1], at.number, j, lines),
         Slot::Links(at, _) => sent_under(owners[usize::from(at.mag) - 1], 25, j, lines),
         _ => None,

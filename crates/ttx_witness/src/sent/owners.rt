@@ -1,14 +1,15 @@
 //! The owners of the eight magazines.
 
-ghost use Rattle.std.specs.Prelude.{◌≡◌, ◌<◌, ℕ, List, slice_get, get_or, false, None, Some, if◌then◌else◌, ◌==◌};
+ghost use Rattle.std.specs.Prelude.{◌≡◌, ◌<◌, ℕ, List, slice_get, get_or, true, false, None, Some, if◌then◌else◌, ◌==◌};
 ghost use Rattle.ttx_header.specs.Ids.{Id, IsId};
 ghost use Rattle.ttx_page.specs.Packets.{packet_of};
 ghost use Rattle.ttx_cycle.specs.Cycles.{slots_of};
+ghost use Rattle.ttx_witness.specs.sent.IndexedHeaders.{IsHeaderOf};
 ghost use Rattle.ttx_witness.specs.sent.ItemTransmissions.{owner_after};
 ghost use Rattle.ttx_witness.specs.sent.Collected.{taint, IsIndex, AreOwners, AreApart, owner_for};
 
-use crate::sent::packets::read_header;
-use crate::sent::page_index::{PageIndex, place_of};
+use crate::sent::indexed_headers::{IndexedHeader, indexed_header};
+use crate::sent::page_index::PageIndex;
 use ttx_cycle::Cycle;
 
 /// The latest header of a magazine.
@@ -33,17 +34,21 @@ fn owner_at(slot: i32, page: Option<u32>) -> Owner
     }
 }
 
-// The owner after a header of another magazine.
-fn taint(owner: Option<Owner>, ends: bool) -> Option<Owner>
-    ensures { result ≡ taint ends owner }
+// Notes that a header of another magazine has ended the page of the owner.
+fn taint(owner: &mut Option<Owner>)
+    ensures { owner.new ≡ taint true owner.old }
 {
-    match owner {
-        None => None,
-        Some(o) => Some(Owner {
-            slot: o.slot,
-            page: o.page,
-            tainted: o.tainted || ends,
-        }),
+    if let Some(owner) = owner {
+        owner.tainted = true;
+    }
+}
+
+// Notes that a header has ended the pages of all magazines.
+fn taint_all(owners: &mut [Option<Owner>; 8])
+    ensures { (m : ℕ) → m < 8 → get_or owners.new m None ≡ taint true (get_or owners.old m None) }
+{
+    for m in 0..8usize {
+        taint(&mut owners[m]);
     }
 }
 
@@ -52,33 +57,25 @@ pub fn note_header(owners: &mut [Option<Owner>; 8], mag: usize, header: Owner, e
     requires { mag < 8 }
     ensures { (m : ℕ) → m < 8 → get_or owners.new m None ≡ (if m == mag then Some header else taint ends (get_or owners.old m None)) }
 {
-    for m in 0..8usize {
-        owners[m] = if m == mag {
-            Some(header)
-        } else {
-            taint(owners[m], ends)
-        };
+    if ends {
+        taint_all(owners);
     }
+    owners[mag] = Some(header);
 }
 
-/// Notes slot `j` if it is a page header.
+/// Notes the header in slot `j`, if there is one.
 #[inline(always)]
-pub fn note_owner(owners: &mut [Option<Owner>; 8], index: &PageIndex, slot: &[u8; 42], j: i32)
-    ensures after { (ids : List Id) → IsIndex ids index.now → (i : ℕ) (id : Id) → slice_get ids i ≡ Some id → IsId id →
-        owner_for owners.new i id ≡ owner_after id j (packet_of slot.now) (owner_for owners.old i id) }
-    ensures apart { (ids : List Id) → IsIndex ids index.now → AreApart ids owners.old → AreApart ids owners.new }
+pub fn note_owner(owners: &mut [Option<Owner>; 8], header: &Option<IndexedHeader>, j: i32)
+    ensures after { (ids : List Id) (slot : List ℕ) → IsHeaderOf ids slot header.now → (i : ℕ) (id : Id) → slice_get ids i ≡ Some id → IsId id →
+        owner_for owners.new i id ≡ owner_after id j (packet_of slot) (owner_for owners.old i id) }
+    ensures apart { (ids : List Id) (slot : List ℕ) → IsHeaderOf ids slot header.now → AreApart ids owners.old → AreApart ids owners.new }
 {
-    ttx_cycle::arrays::is_slot(slot);
-    ttx_header::laws::headers_have_fields();
-    ttx_header::laws::headers_are_headers();
-    if let Some(header) = read_header(slot) {
-        let id = header.id();
-        let page = place_of(index, id);
+    if let Some(header) = header {
         note_header(
             owners,
-            usize::from(id.mag()) - 1,
-            owner_at(j, page),
-            header.control().is_serial(),
+            usize::from(header.id.mag()) - 1,
+            owner_at(j, header.page),
+            header.is_serial,
         );
     }
 }
@@ -92,7 +89,7 @@ pub fn entry_owners(index: &PageIndex, cycle: &Cycle) -> [Option<Owner>; 8]
     let period = slots.len() as i32;
     let mut owners = [None; 8];
     for j in 0..slots.len() {
-        note_owner(&mut owners, index, &slots[j], j as i32 - period);
+        note_owner(&mut owners, &indexed_header(index, &slots[j]), j as i32 - period);
     }
     owners
 }

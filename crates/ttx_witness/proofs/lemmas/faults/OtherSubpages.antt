@@ -10,6 +10,7 @@ use Rattle.ttx_page.specs.Pages.{Page, IsAlone, is_other_subpage}
 use Rattle.ttx_page.specs.declared.selection.Selection.TheVariants.{AnySub}
 use Rattle.ttx_page.specs.Streams.{Stream, repeated, heads_page, heads_matched}
 use Rattle.ttx_page.specs.Steady.{OtherSubpageAt}
+use Rattle.ttx_witness.specs.faults.Comparing.{HoldsNoHeader}
 use Rattle.ttx_witness.specs.faults.Faults.{TellsFirst}
 use Rattle.ttx_witness.specs.faults.OtherSubpages.{place, IsListed, AreSubcodes, is_other, heads_other, HeadsOtherAt, first_of, TellsBelow}
 use Rattle.ttx_witness.specs.declared.faults.subcodes.Subcodes.{Subcodes}
@@ -153,3 +154,17 @@ first_all cycle some table mag number None t = nowhere cycle some (HeadsOtherAt 
     back i = let e : (i -ℤ pos (length cycle)) +ℤ pos (length cycle) ≡ i = omega (arith, ints)
         in sym (period_of cycle (i -ℤ pos (length cycle))) ∙ ap (repeated cycle) e
 first_all cycle some table mag number (Some j) t = record { within = t.0; here = t.1; none_before = t.2 }
+
+-- a packet that is not a header is none of another subpage, so nothing is noted
+pub none_other : (table : List Subcodes) (mag number : ℕ) (packet : Packet) → HoldsNoHeader packet → heads_other table mag number packet ≡ false
+none_other table mag number Empty n = refl
+none_other table mag number Unreadable n = refl
+none_other table mag number (Header id control text) n = absurd n
+none_other table mag number (Row m r text) n = refl
+none_other table mag number (Links m content) n = refl
+none_other table mag number Info n = refl
+none_other table mag number Other n = refl
+
+pub not_noted : (first : Option ℕ) (j : ℕ) → first_of first false j ≡ first
+not_noted None j = refl
+not_noted (Some i) j = refl

@@ -19,7 +19,7 @@ use Rattle.ttx_witness.specs.runs.Transmissions.{Transmission}
 use Rattle.ttx_witness.specs.sent.ItemTransmissions.{PageOwner, sent_under, sent_at}
 use Rattle.ttx_witness.specs.sent.Collected.{is_page, seen_by, Finds, owner_for, IsForeign, AreApart, IsItem, item_number}
 use Rattle.ttx_witness.specs.declared.sent.owners.Owner.{Owner}
-use Rattle.ttx_witness.proofs.lemmas.sent.OwnersAfterSlot.{packet_is}
+use Rattle.ttx_witness.proofs.lemmas.sent.OwnersAfterSlot.{packet_is, IsNoHeader}
 
 not_equal : (a b : ℕ) → (a ≡ b → ⊥) → (a == b) ≡ false
 not_equal a b d = elim (cases_Bool (a == b)) as (λ _. (a == b) ≡ false) [ inl e ↦ absurd (d (eqb-true a b e)) | inr e ↦ e ]
@@ -152,3 +152,7 @@ quiet (SRow at b) k bytes e h r l = absurd (r at b refl)
 quiet (SLinks at b) k bytes e h r l = absurd (l at b refl)
 quiet (SInfo at b) k bytes e h r l = subst IsSilent (sym e.0) tt
 quiet (SOther at) k bytes e h r l = subst IsSilent (sym e) tt
+
+-- a slot without a page header is not read as one
+pub headless : (s : Slot) (k : Kind) (bytes : List ℕ) → ShowsAs s k bytes → IsNoHeader k → (at : Address) (b : Bor (List ℕ)) → s ≡ SHeader at b → ⊥
+headless s k bytes e none at b is = subst IsNoHeader (subst (λ x. ShowsAs x k bytes) is e).0 none

@@ -9,6 +9,7 @@ use Rattle.ttx_header.specs.Ids.{Id, IsId, same_id}
 use Rattle.ttx_page.specs.Packets.{packet_of, packet_of_kind}
 use Rattle.ttx_witness.specs.sent.ItemTransmissions.{PageOwner, tainted_by, owner_after}
 use Rattle.ttx_witness.specs.sent.Collected.{taint, seen_by, Finds, owner_for, IsForeign, AreApart}
+pub use Rattle.ttx_witness.specs.sent.IndexedHeaders.{IsNoHeader}
 use Rattle.ttx_witness.specs.declared.sent.owners.Owner.{Owner}
 
 pub packet_is : (slot : List ℕ) (k : Kind) → kind_of slot ≡ k → packet_of slot ≡ packet_of_kind slot k
@@ -24,10 +25,6 @@ tainted_none None = refl
 tainted_none (Some o) = ap (λ t. Some (record { slot = o.slot; mine = o.mine; tainted = t })) (or_none o.tainted)
 
 -- a slot that is not a header leaves the owner unchanged
-abbrev pub IsNoHeader : Kind → Type 0
-IsNoHeader (IsHeader mag) = ⊥
-IsNoHeader _ = Unit {0}
-
 other_kind : (slot : List ℕ) (id : Id) (j : ℤ) (o : Option PageOwner) (k : Kind) → IsNoHeader k → o ≡ owner_after id j (packet_of_kind slot k) o
 other_kind slot id j o IsEmpty n = sym (tainted_none o)
 other_kind slot id j o IsUnreadable n = sym (tainted_none o)

@@ -26,12 +26,13 @@ returns-clause-taken c = λ entry y ready count seen kept.
     let is : IsCertificate w = (c.certificates_keep_their_rules.ensures walk.certificate.now).1 in
     let end : walk.count ≡ length y = count in
     let room : length walk.sent.slots.items < 65536 = (let k = kept.sent.count in let f = c.requires.few in omega arith) in
-    let grows = c.note.ensures.slots room in (
+    let grows = c.note.ensures.slots room in
+    let read = c.indexed_header-header.ensures (ids walk) ready.index in (
       record {
         each = λ i id at is_id. owner_grown y z id (entry id) (owner_for walk.owners i id) (owner_for c.note_owner.new.owners i id) _
             (search (rules, end)) (seen.each i id at is_id)
-            (c.note_owner.ensures.after (ids walk) ready.index i id at is_id);
-        apart = c.note_owner.ensures.apart (ids walk) ready.index seen.apart;
+            (c.note_owner.ensures.after (ids walk) z read i id at is_id);
+        apart = c.note_owner.ensures.apart (ids walk) z read seen.apart;
       },
       record {
         sent = record {
@@ -44,7 +45,7 @@ returns-clause-taken c = λ entry y ready count seen kept.
               listed_more w is p i c.sent_in_slot-sent.result y z (entry p.id) (owner_for walk.owners i p.id) _ (search (rules, end))
               (seen.each i p.id at_id (ids_are c.pages_keep_their_rules.ensures walk.pages.now i p.id at_id))
               c.lines-lines.result c.lines-lines.ensures
-              (λ item it. c.sent_in_slot-sent.ensures.sent (ids walk) ready.index seen.apart i p.id item at_id it)
+              (λ item it. c.sent_in_slot-sent.ensures.sent (ids walk) read seen.apart i p.id item at_id it)
               item it walk.sent.slots.items c.note.new.self.slots.items grows (kept.sent.each i p item at it);
         };
         facts = λ i p at.
@@ -58,7 +59,7 @@ returns-clause-taken c = λ entry y ready count seen kept.
                   (search (rules, end)) (seen.each i p.id at_id
                   (ids_are c.pages_keep_their_rules.ensures walk.pages.now i p.id at_id))
                   c.lines-lines.result c.lines-lines.ensures
-                  (λ item it. c.sent_in_slot-sent.ensures.sent (ids walk) ready.index seen.apart i p.id item at_id it)
+                  (λ item it. c.sent_in_slot-sent.ensures.sent (ids walk) read seen.apart i p.id item at_id it)
                   c.limit-limit.result c.limit-limit.ensures walk.count end h.value t.value h.is t.is;
             };
         others = λ mag number low high small.
@@ -66,6 +67,6 @@ returns-clause-taken c = λ entry y ready count seen kept.
             (get_or c.note_other_header.new.others.first.items (place mag number) None))
             (sym c.note_other_header.ensures.subcodes)
             (others_more walk.others.subcodes.items mag number y z _ _ walk.count end
-            (c.note_other_header.ensures.noted mag number low high small) (kept.others mag number low high small));
+            (c.note_other_header.ensures.noted (ids walk) z read mag number low high small) (kept.others mag number low high small));
       },
     )

@@ -10,8 +10,8 @@ returns c =
         | then-first w ↦ w.result-is ∙ w.if-first.true ∙ sym (ap (λ b. b || (0 == c.args.number)) w.if-first.true)
         | else-first w ↦ w.result-is ∙ sym (ap (λ b. b || (0 == c.args.number)) w.if-first.false)
       ];
-      erased = record { holds = c.sends_wrong-erased.result; exact = c.sends_wrong-erased.ensures; first = c.noted.ensures };
-      head = record { holds = c.sends_wrong-head.result; exact = c.sends_wrong-head.ensures; first = c.noted-2.ensures };
+      erased = record { holds = c.sent_head_faults-head.result.erases; exact = c.sent_head_faults-head.ensures.erases; first = c.noted.ensures };
+      head = record { holds = c.sent_head_faults-head.result.differs; exact = c.sent_head_faults-head.ensures.differs; first = c.noted-2.ensures };
       row = record { holds = c.is_row_wrong.result; exact = c.is_row_wrong.ensures; first = c.noted-3.ensures };
       links = record { holds = c.sends_wrong-links.result; exact = c.sends_wrong-links.ensures; first = c.noted-4.ensures };
     }

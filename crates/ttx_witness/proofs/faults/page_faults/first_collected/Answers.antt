@@ -8,7 +8,7 @@ use Rattle.ttx_witness.proofs.faults.page_faults.first_collected.Goals as goal
 pub loop-number-preserved : goal.loop-number-preserved
 loop-number-preserved c = record {
   first = λ pages lines sent at.
-      c.after_item-first.ensures lines c.item_of.result c.item_of.ensures.item c.item_of.ensures.number
+      c.note_all.ensures lines c.item_of.result c.item_of.ensures.item c.item_of.ensures.number
       (c.sent-sent.ensures.listed (slots_of c.args.cycle.now) pages lines (page_of c.args.page.now) sent at)
       (c.loop-number.invariant.first pages lines sent at);
 }

@@ -38,8 +38,8 @@ loop-j-preserved c =
           ∙ ap (λ page. sends page item (packet_of slot) c.loop-j.mine) c.id.ensures
           ∙ ap (λ y. sends p.id item (packet_of y) c.loop-j.mine) (sym here)
           ∙ ap (sends p.id item (packet_of (s (pos n)))) c.loop-j.invariant.mine))
-          (λ item i t. refl) c.loop-j.first c.after_sent-first.result
-          (subst (λ y. IsAfter p (λ item. is_number_of item sent) y n c.loop-j.first c.after_sent-first.result) (sym here) c.after_sent-first.ensures)
+          (λ item i t. refl) c.loop-j.first c.note_sent.new.first
+          (subst (λ y. IsAfter p (λ item. is_number_of item sent) y n c.loop-j.first c.note_sent.new.first) (sym here) c.note_sent.ensures)
           c.loop-j.invariant.first;
     }
 

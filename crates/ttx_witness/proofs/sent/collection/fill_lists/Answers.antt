@@ -27,8 +27,8 @@ loop-j-preserved c =
       owners = λ ids index i id at is.
           owner_more id cycle (entry_owner (slots_of c.args.before.now) id)
           (owner_for c.loop-j.owners i id) _ c.loop-j.j _ _ c.loop-j-test.true (search rules)
-          (held_so.owners ids index i id at is) (c.note_owner.ensures.after ids index i id at is);
-      apart = λ ids index. c.note_owner.ensures.apart ids index (held_so.apart ids index);
+          (held_so.owners ids index i id at is) (c.note_owner.ensures.after ids _ (c.indexed_header-header.ensures ids index) i id at is);
+      apart = λ ids index. c.note_owner.ensures.apart ids _ (c.indexed_header-header.ensures ids index) (held_so.apart ids index);
       lists = λ ids index count. record {
         count = c.in_ok-add_sent.ensures.count ∙ (held_so.lists ids index count).count;
         each = λ i id item at is item_is.
@@ -40,8 +40,8 @@ loop-j-preserved c =
             (let p = place_below i item (length ids) (slice_get_within ids i id at) item_is
             in let n = (held_so.lists ids index count).count in omega arith)
             ∙ ap (λ ts. held c.loop-j.lists.items (place_of_item i item) ++ ts)
-            (placed_item i item item_is c.sent_in_slot.result
-            ∙ c.sent_in_slot.ensures.sent ids index (held_so.apart ids index) i id item at item_is));
+            (placed_item i item item_is c.sent_in_slot-sent.result
+            ∙ c.sent_in_slot-sent.ensures.sent ids (c.indexed_header-header.ensures ids index) (held_so.apart ids index) i id item at item_is));
       };
     }
 

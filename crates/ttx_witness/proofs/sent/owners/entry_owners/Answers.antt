@@ -18,9 +18,9 @@ loop-j-preserved c =
     record {
       owners = λ ids index i id at is.
           scan_moved (pos 0 -ℤ pos (length slots)) id (repeated slots) c.loop-j.j _ _ _ _ (search rules)
-          (slot_here slots c.loop-j.j _ (omega (arith, c.loop-j-test.true))) (c.note_owner.ensures.after ids index i id at is)
+          (slot_here slots c.loop-j.j _ (omega (arith, c.loop-j-test.true))) (c.note_owner.ensures.after ids _ (c.indexed_header.ensures ids index) i id at is)
           (c.loop-j.invariant.owners ids index i id at is);
-      apart = λ ids index. c.note_owner.ensures.apart ids index (c.loop-j.invariant.apart ids index);
+      apart = λ ids index. c.note_owner.ensures.apart ids _ (c.indexed_header.ensures ids index) (c.loop-j.invariant.apart ids index);
     }
 
 pub returns-clause-owners : goal.returns-clause-owners

@@ -9,6 +9,7 @@ returns-clause-stands c = λ x old.
     let z = c.args.slot.now in
     let l = one_longer x z in
     let walk = c.args.self.now in
+    let read = c.indexed_header-header.ensures (ids walk) old.ready.index in
     record {
       ready = record { index = old.ready.index; subcodes = old.ready.subcodes };
       few = omega (arith, c.if-self-ge65536.false, old.count);
@@ -16,8 +17,8 @@ returns-clause-stands c = λ x old.
       owners = record {
         each = λ i id at is. owner_grown x z id None (owner_for walk.owners i id) (owner_for c.note_owner.new.owners i id) _
             (let e : walk.count ≡ length x = old.count in search (rules, e)) (old.owners.each i id at is)
-            (c.note_owner.ensures.after (ids walk) old.ready.index i id at is);
-        apart = c.note_owner.ensures.apart (ids walk) old.ready.index old.owners.apart;
+            (c.note_owner.ensures.after (ids walk) z read i id at is);
+        apart = c.note_owner.ensures.apart (ids walk) z read old.owners.apart;
       };
       nothing = record { sent = old.nothing.sent; facts = old.nothing.facts; others = old.nothing.others };
     }

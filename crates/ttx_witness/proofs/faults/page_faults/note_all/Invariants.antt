@@ -7,7 +7,7 @@ use Rattle.ttx_witness.specs.sent.Collected.{IsItem, item_number}
 use Rattle.ttx_witness.specs.sent.ItemTransmissions.{sent_in}
 use Rattle.ttx_witness.specs.faults.FirstSlots.{AreFirstTaken, TakenBelow}
 use Rattle.ttx_witness.proofs.lemmas.faults.CollectedSlots.{TakenWith}
-use Rattle.ttx_witness.proofs.faults.page_faults.after_item.Given as goal
+use Rattle.ttx_witness.proofs.faults.page_faults.note_all.Given as goal
 
 abbrev pub invariant-loop-i : goal.invariant-loop-i
 invariant-loop-i l = record {
