@@ -1,11 +1,11 @@
 -- The item in the first words of what follows the id, and the numbers after it.
-use Rattle.std.proofs.Common.{◌≡◌, ℕ, ◌<◌, ◌==◌, List, [], ◌∷◌, length, Bool, true, false, codes, if◌then◌else◌, Option, Some, None, option_map, refl, sym, ap, ◌∙◌, arith}
+use Rattle.std.proofs.Common.{◌≡◌, ℕ, ◌<◌, List, [], ◌∷◌, length, true, false, codes, Option, Some, None, option_map, refl, sym, ap, ◌∙◌, arith}
 use Rattle.std.specs.Str.{bytes_eq}
 use Rattle.ttx_header.specs.Ids.{Id}
 use Rattle.ttx_page.specs.declared.item.Item.{Item}
 use Rattle.ttx_page.specs.declared.item.Item.TheVariants.{Head as TheHead, Row as TheRow, Links as TheLinks}
 use Rattle.ttx_digits.specs.Digits.{number_in_word}
-use Rattle.ttx_certificate.specs.Entries.{EntryFields, entry_at}
+use Rattle.ttx_certificate.specs.Entries.{entry_at}
 use Rattle.ttx_certificate.specs.CertificateReading.{words_in, row_in, item_in, before_numbers, numbers_in, with_item, with_starts, entry_in}
 use Rattle.ttx_certificate.specs.WrittenEntries.{first_number, followed_by, followed}
 use Rattle.ttx_certificate.proofs.LineShapes.{some_parts, one_at_least}

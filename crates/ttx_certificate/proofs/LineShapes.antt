@@ -1,11 +1,8 @@
 -- The lines of a text, one by one, and the shape of the line of an entry.
-use Rattle.std.proofs.Common.{◌≡◌, ℕ, ◌+◌, ◌<◌, ◌==◌, List, [], ◌∷◌, length, Option, Some, option_map, Result, Ok, Err, refl, sym, ap, ◌∙◌, arith}
+use Rattle.std.proofs.Common.{◌≡◌, ℕ, ◌+◌, ◌<◌, ◌==◌, List, [], ◌∷◌, length, Option, Some, Result, Ok, Err, refl, sym, ap, ◌∙◌, arith}
 use Rattle.std.proofs.lemmas.List.Splits.{length-slice_split}
-use Rattle.ttx_header.specs.Ids.{Id}
-use Rattle.ttx_page.specs.declared.item.Item.{Item}
-use Rattle.ttx_certificate.specs.Entries.{entry_at, place_of}
-use Rattle.ttx_digits.specs.PageIds.{id_in_word}
-use Rattle.ttx_certificate.specs.CertificateReading.{parts_at, words_in, item_in, numbers_in, starts_in_words, with_item, with_starts}
+use Rattle.ttx_certificate.specs.Entries.{place_of}
+use Rattle.ttx_certificate.specs.CertificateReading.{parts_at, words_in, numbers_in, starts_in_words}
 use Rattle.ttx_certificate.specs.CertificateReading.{entry_in, read_entry, read_entries, line_at, only_number, ◌>>=◌}
 use Rattle.ttx_certificate.specs.declared.certificate_faults.CertFault.{CertFault}
 use Rattle.ttx_certificate.specs.declared.certificate_faults.CertFault.TheVariants.{Line}

@@ -1,11 +1,10 @@
 -- Numbers in the words of a line, from the digits at its start.
 use Rattle.std.proofs.Common.{◌≡◌, ℕ, ◌+◌, ◌-◌, ◌<◌, ◌≤◌, ◌==◌, ◌&&◌, ◌||◌, not, Bool, true, false, List, [], ◌∷◌, length, slice_index, take, drop}
-use Rattle.std.proofs.Common.{Option, Some, None, option_map, nat_lt, nat_le, if◌then◌else◌, refl, sym, ap, ◌∙◌, inl, inr, arith}
-use Rattle.std.specs.List.{position, position_or_len, slice_split, list_all}
+use Rattle.std.proofs.Common.{Option, Some, None, option_map, nat_lt, nat_le, refl, sym, ap, ◌∙◌, inl, inr, arith}
+use Rattle.std.specs.List.{position, position_or_len}
 use Rattle.std.proofs.lemmas.Bool.{cases_Bool, true≢false, and_from, and_parts}
 use Rattle.std.proofs.lemmas.Bool.Decides.{nat_tests}
 use Rattle.std.proofs.lemmas.List.{length-take, length-take-le, get_or-take, take_all}
-use Rattle.std.proofs.lemmas.List.Folds.{list_all_at}
 use Rattle.std.proofs.lemmas.List.Sums.{position_or_len_is, passes_at_first, AllPass-from_list_all}
 use Rattle.ttx_digits.specs.Digits.{are_digits, is_between, is_number, number_in_word, decimal_after}
 use Rattle.ttx_certificate.specs.CertificateReading.{words_in}

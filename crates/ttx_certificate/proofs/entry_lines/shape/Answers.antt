@@ -1,4 +1,4 @@
-use Rattle.std.proofs.Common.{◌≡◌, Some, None, rules}
+use Rattle.std.proofs.Common.{◌≡◌, Some, rules}
 use Rattle.ttx_header.specs.Ids.{id_at}
 use Rattle.ttx_certificate.specs.CertificateReading.{item_in, numbers_in, words_in, with_item, entry_in}
 use Rattle.ttx_certificate.specs.WrittenEntries.{written_item, followed}
