@@ -1,11 +1,8 @@
 -- The lines of a text, one by one, and the shape of the line of an entry.
-use Rattle.std.proofs.Common.{◌≡◌, ℕ, ◌+◌, ◌<◌, ◌==◌, List, [], ◌∷◌, length, Option, Some, option_map, Result, Ok, Err, refl, sym, ap, ◌∙◌, arith}
+use Rattle.std.proofs.Common.{◌≡◌, ℕ, ◌+◌, ◌<◌, ◌==◌, List, [], ◌∷◌, length, Option, Some, Result, Ok, Err, refl, sym, ap, ◌∙◌, arith}
 use Rattle.std.proofs.lemmas.List.Splits.{length-slice_split}
-use Rattle.ttx_header.specs.Ids.{Id}
-use Rattle.ttx_page.specs.declared.item.Item.{Item}
-use Rattle.ttx_certificate.specs.Entries.{entry_at, place_of}
-use Rattle.ttx_digits.specs.PageIds.{id_in_word}
-use Rattle.ttx_certificate.specs.CertificateReading.{parts_at, words_in, item_in, numbers_in, starts_in_words, with_item, with_starts}
+use Rattle.ttx_certificate.specs.Entries.{place_of}
+use Rattle.ttx_certificate.specs.CertificateReading.{parts_at, words_in, numbers_in, starts_in_words}
 use Rattle.ttx_certificate.specs.CertificateReading.{entry_in, read_entry, read_entries, line_at, only_number, ◌>>=◌}
 use Rattle.ttx_certificate.specs.declared.certificate_faults.CertFault.{CertFault}
 use Rattle.ttx_certificate.specs.declared.certificate_faults.CertFault.TheVariants.{Line}
@@ -14,17 +11,9 @@ use Rattle.ttx_certificate.specs.declared.certificate_faults.CertFault.TheVarian
 pub some_parts : (separator : ℕ) (text : List ℕ) → 0 < length (parts_at separator text)
 some_parts separator text = let n = length-slice_split (λ b. b == separator) text in omega arith
 
-one_at_least : (words : List (List ℕ)) → 0 < length words → starts_in_words words ≡ numbers_in words
+pub one_at_least : (words : List (List ℕ)) → 0 < length words → starts_in_words words ≡ numbers_in words
 one_at_least [] some = absurd (omega arith)
 one_at_least (word ∷ words) some = refl
-
--- the line of an entry, by its words
-pub entry_shape : (words rest : List (List ℕ)) (word text : List ℕ) (page : Id) (item : Item) (starts : List ℕ) → words ≡ word ∷ rest →
-    Some page ≡ id_in_word word →
-    Some (item, words_in text) ≡ item_in rest → Some starts ≡ numbers_in (words_in text) → Some (entry_at page item starts) ≡ entry_in words
-entry_shape words rest word text page item starts is id_is item_is starts_are =
-    sym (ap entry_in is ∙ ap (λ o. with_item o rest) (sym id_is) ∙ ap (with_starts page) (sym item_is)
-    ∙ ap (option_map (λ starts. entry_at page item starts)) (one_at_least (words_in text) (some_parts 32 text) ∙ sym starts_are))
 
 -- two words aren't one number
 pub two_words : (n most separator : ℕ) (word rest : List ℕ) → only_number n most (word ∷ parts_at separator rest) ≡ Err (Line n)

@@ -2,8 +2,11 @@
 --
 --   written_item, written_of     an item and an entry whose numbers may be out of range
 --   words_after             the words of what is left of a line
-use Rattle.std.specs.Prelude.{ℕ, List, [], Option, Some, None}
+--   first_number            the number in the first word, and the words after it
+--   followed                an item that more words follow
+use Rattle.std.specs.Prelude.{ℕ, List, [], ◌∷◌, Option, Some, None, option_map}
 use Rattle.ttx_header.specs.Ids.{id_at}
+use Rattle.ttx_digits.specs.Digits.{number_in_word}
 use Rattle.ttx_page.specs.declared.item.Item.{Item}
 use Rattle.ttx_page.specs.declared.item.Item.TheVariants.{Head as TheHead, Row as TheRow, Links as TheLinks}
 use Rattle.ttx_certificate.specs.Entries.{EntryFields, entry_at}
@@ -23,3 +26,17 @@ written_of e = entry_at (id_at e.mag e.page e.sub) (written_item e.item) e.start
 abbrev pub words_after : Option (List ℕ) → List (List ℕ)
 words_after None = []
 words_after (Some text) = words_in text
+
+-- the number in the first word, and the words after it
+abbrev pub first_number : List (List ℕ) → Option (ℕ × List (List ℕ))
+first_number [] = None
+first_number (word ∷ words) = option_map (λ n. (n, words)) (number_in_word word)
+
+abbrev pub followed_by : Item → List (List ℕ) → Option (Item × List (List ℕ))
+followed_by item [] = None
+followed_by item (word ∷ words) = Some (item, word ∷ words)
+
+-- an item that more words follow
+abbrev pub followed : Option (Item × List (List ℕ)) → Option (Item × List (List ℕ))
+followed None = None
+followed (Some p) = followed_by p.0 p.1

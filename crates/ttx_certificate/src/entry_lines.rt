@@ -1,45 +1,49 @@
 //! The line of an entry, word by word.
 
-ghost use Rattle.std.specs.Prelude.{◌≡◌, ◌<◌, ◌∷◌, length, option_map, IfOk, IfSome};
-ghost use Rattle.ttx_certificate.specs.CertificateReading.{words_in, row_in, item_in, numbers_in, entry_in};
-ghost use Rattle.ttx_certificate.specs.WrittenEntries.{written_item, written_of, words_after};
+ghost use Rattle.std.specs.Prelude.{◌≡◌, Some, None, option_map, IfOk, MatchOption};
+ghost use Rattle.ttx_header.specs.Ids.{id_at};
+ghost use Rattle.ttx_certificate.specs.CertificateReading.{words_in, row_in, item_in, numbers_in, with_item, entry_in};
+ghost use Rattle.ttx_certificate.specs.WrittenEntries.{written_item, written_of, followed};
 
 use crate::entries::Starts;
 use crate::line_words::cut_word;
 use crate::no_memory::NoMemory;
+use crate::number_words::next_number;
 use crate::written::{Written, WrittenItem};
 use std::alloc::Global;
-use ttx_digits::{id, number};
+use ttx_digits::id;
 
-// The first word, and what follows the space after it.
-fn next_word(text: &[u8]) -> (&[u8], Option<&[u8]>)
-    ensures words { words_in text.now ≡ result.0.now ∷ words_after (option_map (λ t. t.now) result.1) }
-    ensures shorter { IfSome result.1 (λ t. length t.now < length text.now) }
+// The id in the first word, and what follows the space after it.
+fn page(line: &[u8]) -> Option<((u8, u8, u16), &[u8])>
+    ensures { MatchOption result (entry_in (words_in line.now) ≡ None)
+        (λ p. entry_in (words_in line.now) ≡ with_item (Some (id_at p.0.0 p.0.1 p.0.2)) (words_in p.1.now)) }
 {
-    match cut_word(text) {
-        Some((word, rest)) => (word, Some(rest)),
-        None => (text, None),
+    if line.len() < 9 || line[8] != b' ' {
+        return None;
     }
-}
-
-// A row by its number, and what follows it.
-fn row<'a>(rest: Option<&'a [u8]>) -> Option<(WrittenItem, Option<&'a [u8]>)>
-    ensures { option_map (λ p. (written_item p.0, words_after (option_map (λ t. t.now) p.1))) result
-        ≡ row_in (words_after (option_map (λ t. t.now) rest.entry)) }
-{
-    let (word, rest) = next_word(rest?);
-    match number(word) {
-        Some(number) => Some((WrittenItem::Row(number), rest)),
+    match id(&line[..8]) {
+        Some(id) => Some((id, &line[9..])),
         None => None,
     }
 }
 
-// An item, and what follows it.
-fn item<'a>(rest: Option<&'a [u8]>) -> Option<(WrittenItem, Option<&'a [u8]>)>
-    ensures { option_map (λ p. (written_item p.0, words_after (option_map (λ t. t.now) p.1))) result
-        ≡ item_in (words_after (option_map (λ t. t.now) rest.entry)) }
+// The row with the number in the first word, and what follows the space after it.
+fn row(text: &[u8]) -> Option<(WrittenItem, &[u8])>
+    ensures { option_map (λ p. (written_item p.0, words_in p.1.now)) result ≡ followed (row_in (words_in text.now)) }
 {
-    let (word, rest) = next_word(rest?);
+    match next_number(text) {
+        Some((number, Some(rest))) => Some((WrittenItem::Row(number), rest)),
+        _ => None,
+    }
+}
+
+// The item in the first words, by the whole first word, and what follows the space after it.
+fn named_item(text: &[u8]) -> Option<(WrittenItem, &[u8])>
+    ensures { option_map (λ p. (written_item p.0, words_in p.1.now)) result ≡ followed (item_in (words_in text.now)) }
+{
+    let Some((word, rest)) = cut_word(text) else {
+        return None;
+    };
     if word == b"head".as_slice() {
         Some((WrittenItem::Head, rest))
     } else if word == b"links".as_slice() {
@@ -51,6 +55,16 @@ fn item<'a>(rest: Option<&'a [u8]>) -> Option<(WrittenItem, Option<&'a [u8]>)>
     }
 }
 
+// The item in the first words, and what follows the space after it. Most items are rows.
+fn item(text: &[u8]) -> Option<(WrittenItem, &[u8])>
+    ensures { option_map (λ p. (written_item p.0, words_in p.1.now)) result ≡ followed (item_in (words_in text.now)) }
+{
+    match text {
+        [b'r', b'o', b'w', b' ', rest @ ..] => row(rest),
+        _ => named_item(text),
+    }
+}
+
 // The numbers of the words. `None` if one is not a number.
 fn numbers(alloc: Global, text: &[u8]) -> Result<Option<Starts>, NoMemory>
     ensures { IfOk result (λ s. option_map (λ v. v.items) s ≡ numbers_in (words_in text.now)) }
@@ -58,8 +72,7 @@ fn numbers(alloc: Global, text: &[u8]) -> Result<Option<Starts>, NoMemory>
     let mut numbers = Starts::new(alloc);
     let mut rest = Some(text);
     while let Some(text) = rest {
-        let (word, more) = next_word(text);
-        let Some(number) = number(word) else {
+        let Some((number, more)) = next_number(text) else {
             return Ok(None);
         };
         if numbers.push(number).is_err() {
@@ -74,11 +87,10 @@ fn numbers(alloc: Global, text: &[u8]) -> Result<Option<Starts>, NoMemory>
 pub(crate) fn shape(alloc: Global, line: &[u8]) -> Result<Option<Written>, NoMemory>
     ensures { IfOk result (λ w. option_map written_of w ≡ entry_in (words_in line.now)) }
 {
-    let (word, rest) = next_word(line);
-    let Some((mag, page, sub)) = id(word) else {
+    let Some(((mag, page, sub), rest)) = page(line) else {
         return Ok(None);
     };
-    let Some((item, Some(text))) = item(rest) else {
+    let Some((item, text)) = item(rest) else {
         return Ok(None);
     };
     match numbers(alloc, text)? {

@@ -12,6 +12,7 @@ mod item_numbers;
 mod limits;
 mod line_words;
 mod no_memory;
+mod number_words;
 mod reader;
 mod writer;
 mod written;

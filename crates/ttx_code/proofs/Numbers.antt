@@ -1,6 +1,6 @@
 -- The tables of code words and numbers hold what the definitions say. Computed over all their entries.
 use Rattle.std.proofs.Common.{◌≡◌, ℕ, ◌<◌, ◌≤◌, Bool, true, refl, leb, eqb, get_or, arith, sym, ◌∙◌, ap, ◌&&◌, ltb, Option, Some, None, ◌||◌, not}
-use Rattle.std.proofs.Common.{false, inl, inr, subst}
+use Rattle.std.proofs.Common.{false, inl, inr, subst, bit_or, ◌%◌, is_some}
 use Rattle.std.proofs.lemmas.Bool.{cases_lt, agree_below, agree_below_at, eqb-true, eq-eqb, leb-true, le-leb, ltb-true, and_parts}
 use Rattle.std.proofs.lemmas.Nat.{xor_comm}
 use Rattle.std.specs.Int.Bits.{xor_self}
@@ -145,3 +145,31 @@ words_are_read_under_one_wrong_bit sent received ls lr w wrong =
 pub each_byte_is_near_itself : EachByteIsNearItself
 unfolding distance ones
 each_byte_is_near_itself b = rw (xor_self b) (omega arith)
+
+-- ---- the table without its marks, and the marks alone
+
+numbers_table : agree_below (λ b. eqb (get_or NUMBERS b 0 % 16) (number_of b)) (λ _. true) 256 ≡ true
+unfolding reading ones distance hamming_word
+numbers_table = refl
+
+pub number_by_table : (b : ℕ) → b < 256 → get_or NUMBERS b 0 % 16 ≡ number_of b
+number_by_table b l = eqb-true _ _ (agree_below_at (λ b. eqb (get_or NUMBERS b 0 % 16) (number_of b)) (λ _. true) 256 b numbers_table l)
+
+marks_table : agree_below (λ b. ltb (get_or NUMBERS b 0) 16) (λ b. is_some (reading b)) 256 ≡ true
+unfolding reading ones distance hamming_word
+marks_table = refl
+
+entries_table : agree_below (λ b. ltb (get_or NUMBERS b 0) 32) (λ _. true) 256 ≡ true
+entries_table = refl
+
+unions : agree_below (λ a. agree_below (λ b. ltb (bit_or a b) 16) (λ b. ltb a 16 && ltb b 16) 32) (λ _. true) 256 ≡ true
+unions = refl
+
+-- a union has no mark exactly if neither part has one
+pub no_mark : (a b : ℕ) → a < 256 → b < 256 → ltb (bit_or a (get_or NUMBERS b 0)) 16 ≡ (ltb a 16 && is_some (reading b))
+no_mark a b la lb =
+    let entry = get_or NUMBERS b 0 in
+    let low : entry < 32 = ltb-true _ _ (agree_below_at (λ b. ltb (get_or NUMBERS b 0) 32) (λ _. true) 256 b entries_table lb) in
+    agree_below_at (λ e. ltb (bit_or a e) 16) (λ e. ltb a 16 && ltb e 16) 32 entry
+    (agree_below_at (λ a. agree_below (λ b. ltb (bit_or a b) 16) (λ b. ltb a 16 && ltb b 16) 32) (λ _. true) 256 a unions la) low
+    ∙ ap (λ t. ltb a 16 && t) (agree_below_at (λ b. ltb (get_or NUMBERS b 0) 16) (λ b. is_some (reading b)) 256 b marks_table lb)

@@ -1,7 +1,8 @@
 //! The Hamming 8/4 code (EN 300 706, 8.2): four bits in a byte. One wrong bit in the byte is corrected.
 
-ghost use Rattle.std.specs.Prelude.{◌≡◌, ℕ, ◌<◌, ◌↔◌, IsTrue, MatchOption};
-ghost use Rattle.ttx_code.specs.Words.{hamming_word, Reads, IsWord, is_word, reading};
+ghost use Rattle.std.specs.Prelude.{◌≡◌, ℕ, ◌<◌, ◌↔◌, IsTrue, MatchOption, is_some};
+ghost use Rattle.std.specs.List.{list_all};
+ghost use Rattle.ttx_code.specs.Words.{hamming_word, Reads, IsWord, is_word, number_of, reading};
 
 // The code word of each number from 0 to 15.
 static WORDS: [u8; 16] = [
@@ -74,4 +75,37 @@ pub fn is_word(b: u8) -> bool
     ensures value { result ≡ is_word b }
 {
     ARE_WORDS[usize::from(b)]
+}
+
+/// The number, 0 to 15, that a byte reads as; 0 if the byte is unreadable.
+#[inline(always)]
+pub fn number_of(b: u8) -> u8
+    ensures value { result ≡ number_of b }
+    ensures range { result < 16 }
+{
+    NUMBERS[usize::from(b)] % 16
+}
+
+/// Whether all bytes are readable: no mark is set in the union of their numbers.
+#[inline(always)]
+pub fn are_readable(bytes: &[u8]) -> bool
+    ensures { result ≡ list_all (λ b. is_some (reading b)) bytes.now }
+{
+    let mut union = 0;
+    for i in 0..bytes.len() {
+        union |= NUMBERS[usize::from(bytes[i])];
+    }
+    union < 16
+}
+
+/// Whether all bytes are code words.
+#[inline(always)]
+pub fn are_words(bytes: &[u8]) -> bool
+    ensures { result ≡ list_all is_word bytes.now }
+{
+    let mut all = true;
+    for i in 0..bytes.len() {
+        all &= is_word(bytes[i]);
+    }
+    all
 }

@@ -1,11 +1,11 @@
 -- The numbers that words of digits stand for, and the digits in the word of an id.
-use Rattle.std.proofs.Common.{◌≡◌, ℕ, zero, suc, ◌^◌, ◌<◌, ◌≤◌, Bool, true, false, ◌&&◌, List, length}
+use Rattle.std.proofs.Common.{◌≡◌, ℕ, zero, suc, ◌^◌, ◌<◌, ◌≤◌, Bool, true, false, ◌&&◌, ◌++◌, List, [], ◌∷◌, length}
 use Rattle.std.proofs.Common.{◌==◌, ◌+◌, ◌-◌, ◌*◌, slice_index, Some, None, if◌then◌else◌, refl, sym, ap, ◌∙◌, inl, inr, arith}
 use Rattle.std.proofs.lemmas.Bool.{and_from, and_parts, cases_Bool}
 use Rattle.std.proofs.lemmas.Option.{cond_some}
 use Rattle.std.proofs.lemmas.Bool.Decides.{nat_tests}
 use Rattle.ttx_header.specs.Ids.{id_at}
-use Rattle.ttx_digits.specs.Digits.{is_between, is_hex, hex_value, hex_in, hex_pair, joined_digits, two_digits, four_digits}
+use Rattle.ttx_digits.specs.Digits.{decimal_after, is_between, is_hex, hex_value, hex_in, hex_pair, joined_digits, two_digits, four_digits}
 use Rattle.ttx_digits.specs.PageIds.{is_id_word, id_in_word}
 
 power_le : (i : ℕ) → i < 7 → 10 ^ i ≤ 1000000
@@ -21,6 +21,12 @@ power_le (suc (suc (suc (suc (suc (suc (suc i))))))) lt = absurd (omega arith)
 -- ten times a number of fewer than seven digits, plus a digit, has at most seven digits
 pub number_fits : (n i : ℕ) → n < 10 ^ i → i < 7 → n < 1000000
 number_fits n i small lt = let p = power_le i lt in omega arith
+
+-- one digit more
+pub decimal_after_push : (n : ℕ) (digits : List ℕ) (digit : ℕ) →
+    decimal_after n (digits ++ digit ∷ []) ≡ 10 * decimal_after n digits + (digit - 48)
+decimal_after_push n [] digit = refl
+decimal_after_push n (first ∷ digits) digit = decimal_after_push (10 * n + (first - 48)) digits digit
 
 pub record IdWord (word : List ℕ) : Type 0 where
   pub magazine : is_between 49 56 (slice_index word 0) ≡ true

@@ -1,10 +1,10 @@
 //! Decimal numbers.
 
-ghost use Rattle.std.specs.Prelude.{ℕ, ◌≡◌, ◌≤◌, ◌<◌, ◌+◌, ◌*◌, ◌++◌, length, slice_range, Some, None, if◌then◌else◌, IfSome, OnOk, string_bytes};
+ghost use Rattle.std.specs.Prelude.{ℕ, ◌≡◌, ◌≤◌, ◌<◌, ◌+◌, ◌*◌, ◌++◌, length, slice_range, slice_index, take, true, false, Some, None, if◌then◌else◌, IfSome, OnOk, string_bytes};
 ghost use Rattle.std.specs.Fmt.{decimal};
 ghost use Rattle.std.specs.Str.{IsAscii};
 ghost use Rattle.ttx_digits.specs.Digits as rule;
-ghost use Rattle.ttx_digits.specs.Digits.{are_digits, decimal_after, number_in_word};
+ghost use Rattle.ttx_digits.specs.Digits.{are_digits, is_between, decimal_after, number_in_word};
 
 use itoa::Buffer;
 use std::alloc::AllocError;
@@ -93,6 +93,27 @@ fn value_of(digits: &[u8]) -> Option<u32>
         value = 10 * value + u32::from(decimal_in(*digit)?);
     }
     Some(value)
+}
+
+/// How many digits a text begins with, counted up to 7, and the number that they stand for.
+#[tactic(auto, unfolding(crate::specs::Digits::decimal_in))]
+pub fn leading_digits(text: &[u8]) -> (usize, u32)
+    ensures few { result.0 ≤ 7 }
+    ensures within { result.0 ≤ length text.now }
+    ensures digits { are_digits (take result.0 text.now) ≡ true }
+    ensures value { result.1 ≡ decimal_after 0 (take result.0 text.now) }
+    ensures end { result.0 < 7 → result.0 < length text.now → is_between 48 57 (slice_index text.now result.0) ≡ false }
+{
+    let mut count = 0;
+    let mut number = 0;
+    while count < 7 && count < text.len() {
+        let Some(digit) = decimal_in(text[count]) else {
+            return (count, number);
+        };
+        number = 10 * number + u32::from(digit);
+        count += 1;
+    }
+    (count, number)
 }
 
 /// Reads a decimal number below 10,000,000. `None` if the word is not 1 to 7 digits without a leading zero.

@@ -8,6 +8,6 @@ pub mod laws;
 mod page_ids;
 
 pub use control_names::push_control;
-pub use decimals::{decimal_in, number, push_decimal, push_digit, two_decimals};
+pub use decimals::{decimal_in, leading_digits, number, push_decimal, push_digit, two_decimals};
 pub use hexadecimals::{digit, four_digits, push_byte, push_subcode, two_digits};
 pub use page_ids::{first_number, id, push_id, push_numbers};

@@ -1,5 +1,5 @@
 -- The kind of a page header.
-use Rattle.std.proofs.Common.{◌≡◌, ℕ, ◌==◌, ◌&&◌, Bool, true, false, if◌then◌else◌, List, Option, Some, None, is_some, nat_le, refl, sym, ap, subst}
+use Rattle.std.proofs.Common.{◌≡◌, ℕ, ◌==◌, ◌&&◌, true, false, List, Option, Some, None, is_some, nat_le, refl, sym, ap, subst}
 use Rattle.std.proofs.Common.{◌∙◌, slice_index, slice_range}
 use Rattle.std.specs.Prelude.{unwrap_or}
 use Rattle.std.proofs.lemmas.Bool.{cond_both}

@@ -4,22 +4,24 @@ ghost use Rattle.std.specs.Prelude.{◌≡◌, ◌+◌, ◌<◌, ◌≤◌, ◌+
 ghost use Rattle.ttx_packet.specs.Slots.{are_readable};
 ghost use Rattle.ttx_header.specs.Headers.{number};
 
-use ttx_code::unham;
+use ttx_code::{are_readable, number_of};
 
 /// Whether all bytes are readable as Hamming 8/4.
+#[inline(always)]
 pub fn is_readable(bytes: &[u8]) -> bool
     ensures { result ≡ are_readable bytes.now }
 {
-    bytes.iter().all(|b| unham(*b).is_some())
+    are_readable(bytes)
 }
 
 /// The number, 0 to 15, that byte `at` of a packet reads as; 0 if the byte is unreadable.
+#[inline(always)]
 pub fn number_at(bytes: &[u8; 42], at: usize) -> u8
     requires { at < 42 }
     ensures value { result ≡ number bytes.now at }
     ensures range { result < 16 }
 {
-    unham(bytes[at]).unwrap_or(0)
+    number_of(bytes[at])
 }
 
 /// Overwrites a part of a packet, from byte `at` on. The bytes before it are unchanged.

@@ -26,6 +26,7 @@ fn clock_of(bytes: &[u8; 42]) -> [u8; 8]
 
 /// Reads the page header in the 42 bytes of a slot (EN 300 706, 9.3.1). `None` if one of bytes 0 to 9 is unreadable, or the
 /// packet number is not 0.
+#[inline(always)]
 pub fn read_header(bytes: &[u8; 42]) -> Option<Header>
     ensures { SomeIff result (is_header bytes.now ≡ true) (header_fields_of bytes.now) }
 {

@@ -4,3 +4,4 @@ mod Receptions
 mod SaidLinks
 mod WrittenLinks
 mod ReadableLinks
+mod ExactLinks

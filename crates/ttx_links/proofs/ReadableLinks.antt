@@ -116,7 +116,7 @@ module _ (mag : ℕ) (s : List ℕ) (k : ℕ) (read : AreRead s k (k + 6)) where
       a_target : is_time_filling (target_at mag s k) ≡ false → linked (target_at mag s k) ≡ Some (target_at mag s k)
       a_target leads = rw leads refl
 
-if_some : (b : Bool) (x y : LinkSet) → (if b then Some x else None) ≡ Some y → (b ≡ true) × (x ≡ y)
+pub if_some : (b : Bool) (x y : LinkSet) → (if b then Some x else None) ≡ Some y → (b ≡ true) × (x ≡ y)
 if_some true x y e = (refl, ap (λ o. the o) e)
   where
     the : Option LinkSet → LinkSet

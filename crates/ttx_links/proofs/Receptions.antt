@@ -7,11 +7,11 @@ use Rattle.std.proofs.lemmas.Bool.{and_parts}
 use Rattle.std.proofs.lemmas.List.{get_or-take, get_or-drop, length-take-le, length-drop}
 use Rattle.ttx_code.specs.Words.{reading, is_word}
 use Rattle.ttx_code.specs.Laws.{WordsHaveNumbers}
-use Rattle.ttx_packet.specs.Slots.{are_readable}
+use Rattle.ttx_packet.specs.Slots.{IsSlot, are_readable}
 use Rattle.ttx_header.specs.Headers.{number}
 use Rattle.ttx_header.specs.Ids.{id_at}
 use Rattle.ttx_header.specs.Laws.{WordsAreKept}
-use Rattle.ttx_links.specs.Sets.{target_magazine, linked, link_at, set_of, links_of}
+use Rattle.ttx_links.specs.Sets.{target_magazine, linked, link_at, set_of, links_of, is_exact}
 use Rattle.ttx_links.specs.Laws.{LinksAreKept}
 
 passes_at : (test : ℕ → Bool) (xs : List ℕ) (k : ℕ) → list_all test xs ≡ true → k < length xs → test (get_or xs k 0) ≡ true
@@ -33,6 +33,23 @@ at_range s a b k l = get_or-take (b - a) (drop a s) k 0 l ∙ get_or-drop a s k 
 length_range : (s : List ℕ) (a b : ℕ) → b ≤ length s → a ≤ b → length (slice_range s a b) ≡ b - a
 length_range s a b l m = length-take-le (b - a) (drop a s) (omega (arith, length-drop a s))
 
+long : (t : List ℕ) → length t ≡ 42 → length (slice_range t 3 40) ≡ 37
+long t size = length_range t 3 40 (omega (arith, size)) (omega arith)
+
+-- each code word reads as a number
+words_are_numbered : WordsHaveNumbers → (s : List ℕ) → IsSlot s → is_exact s ≡ true → (k : ℕ) → k < 37 → is_some (reading (slice_index s (3 + k))) ≡ true
+words_are_numbered numbers s is exact k l =
+    let there : is_word (slice_index s (3 + k)) ≡ true =
+    ap is_word (sym (at_range s 3 40 k (omega arith)))
+    ∙ passes_at is_word (slice_range s 3 40) k exact (omega (arith, long s is.size)) in
+    ap is_some (numbers _ (is.bytes (3 + k)) there).0
+
+-- code words are readable
+pub words_are_readable : WordsHaveNumbers → (s : List ℕ) → IsSlot s → is_exact s ≡ true → are_readable (slice_range s 3 40) ≡ true
+words_are_readable numbers s is exact = all_pass (λ b. is_some (reading b)) (slice_range s 3 40) (λ k l.
+    ap (λ b. is_some (reading b)) (at_range s 3 40 k (omega (arith, l, long s is.size)))
+    ∙ words_are_numbered numbers s is exact k (omega (arith, l, long s is.size)))
+
 module _ (numbers : WordsHaveNumbers) (kept : WordsAreKept) where
   pub links_are_kept : LinksAreKept
   unfolding links_of
@@ -41,24 +58,14 @@ module _ (numbers : WordsHaveNumbers) (kept : WordsAreKept) where
       same : (x : ℕ) → 3 ≤ x → x < 40 → reading (slice_index received x) ≡ reading (slice_index sent x)
       same = kept sent received 3 40 s r (omega arith) exact near
 
-      long : (t : List ℕ) → length t ≡ 42 → length (slice_range t 3 40) ≡ 37
-      long t size = length_range t 3 40 (omega (arith, size)) (omega arith)
-
-      word : (k : ℕ) → k < 37 → is_some (reading (slice_index sent (3 + k))) ≡ true
-      word k l =
-          let there : is_word (slice_index sent (3 + k)) ≡ true =
-          ap is_word (sym (at_range sent 3 40 k (omega arith)))
-          ∙ passes_at is_word (slice_range sent 3 40) k exact (omega (arith, long sent s.size)) in
-          ap is_some (numbers _ (s.bytes (3 + k)) there).0
-
       readable_sent : are_readable (slice_range sent 3 40) ≡ true
-      readable_sent = all_pass (λ b. is_some (reading b)) (slice_range sent 3 40) (λ k l.
-          ap (λ b. is_some (reading b)) (at_range sent 3 40 k (omega (arith, l, long sent s.size))) ∙ word k (omega (arith, l, long sent s.size)))
+      readable_sent = words_are_readable numbers sent s exact
 
       readable_received : are_readable (slice_range received 3 40) ≡ true
       readable_received = all_pass (λ b. is_some (reading b)) (slice_range received 3 40) (λ k l.
           ap (λ b. is_some (reading b)) (at_range received 3 40 k (omega (arith, l, long received r.size)))
-          ∙ ap is_some (same (3 + k) (omega arith) (omega (arith, l, long received r.size))) ∙ word k (omega (arith, l, long received r.size)))
+          ∙ ap is_some (same (3 + k) (omega arith) (omega (arith, l, long received r.size)))
+          ∙ words_are_numbered numbers sent s exact k (omega (arith, l, long received r.size)))
 
       n : (x : ℕ) → 3 ≤ x → x < 40 → number received x ≡ number sent x
       n x l m = ap (λ o. unwrap_or o 0) (same x l m)

@@ -9,7 +9,7 @@ pub mod sets;
 pub mod targets;
 mod writer;
 
-pub use reader::{read_link, read_links};
+pub use reader::{links_are_exact, read_link, read_links};
 pub use sets::Links;
 pub use targets::Target;
 pub use writer::{write_link, write_links};

@@ -1,11 +1,12 @@
 //! Reads packets X/27/0, and single links in other packets.
 
-ghost use Rattle.std.specs.Prelude.{◌≡◌, ◌+◌, ◌≤◌, true, SomeIff, slice_range, option_map};
+ghost use Rattle.std.specs.Prelude.{◌≡◌, ◌+◌, ◌≤◌, ◌↔◌, true, IsTrue, Some, SomeIff, slice_range, option_map};
 ghost use Rattle.ttx_packet.specs.Slots.{are_readable};
-ghost use Rattle.ttx_links.specs.Sets.{link_at, links_fields, links_of};
+ghost use Rattle.ttx_links.specs.Sets.{is_exact, link_at, links_fields, links_of, set_of};
 
 use crate::sets::Links;
 use crate::targets::Target;
+use ttx_code::are_words;
 use ttx_header::parts::{is_readable, number_at};
 
 // The link in the six bytes from byte `at` on, if they are readable.
@@ -72,4 +73,40 @@ pub fn read_links(mag: u8, bytes: &[u8; 42]) -> Option<Links>
     ];
     let show24 = number_at(bytes, 39) / 8 == 1;
     Some(Links::new(six, show24, crc_of(bytes)))
+}
+
+// Whether the six bytes from byte `at` on read as this link.
+fn is_link(mag: u8, bytes: &[u8; 42], at: usize, link: Option<Target>) -> bool
+    requires low { 1 ≤ mag }
+    requires high { mag ≤ 8 }
+    requires inside { at + 6 ≤ 42 }
+    ensures { IsTrue result ↔ (link_at mag bytes.now at ≡ link) }
+{
+    link_at(mag, bytes, at) == link
+}
+
+// Whether bytes 3 to 38 read as these six links.
+fn are_six(mag: u8, bytes: &[u8; 42], six: &[Option<Target>; 6]) -> bool
+    requires low { 1 ≤ mag }
+    requires high { mag ≤ 8 }
+    ensures { IsTrue result ↔ ((set_of mag bytes.now).six ≡ six.now) }
+{
+    is_link(mag, bytes, 3, six[0])
+        & is_link(mag, bytes, 9, six[1])
+        & is_link(mag, bytes, 15, six[2])
+        & is_link(mag, bytes, 21, six[3])
+        & is_link(mag, bytes, 27, six[4])
+        & is_link(mag, bytes, 33, six[5])
+}
+
+/// Whether bytes 3 to 39 of a packet X/27/0 of magazine `mag` are code words that send these links and their `show24`. The first
+/// three bytes and the page CRC are not looked at.
+pub fn links_are_exact(mag: u8, bytes: &[u8; 42], links: &Links) -> bool
+    requires low { 1 ≤ mag }
+    requires high { mag ≤ 8 }
+    ensures { IsTrue result ↔ ((is_exact bytes.now ≡ true) × (links_of mag bytes.now ≡ Some links.now.set)) }
+{
+    ttx_code::laws::words_have_numbers();
+    let same_row = (number_at(bytes, 39) / 8 == 1) == links.show24();
+    are_words(&bytes[3..40]) & are_six(mag, bytes, links.six()) & same_row
 }

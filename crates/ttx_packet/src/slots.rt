@@ -1,11 +1,11 @@
 //! The kinds of slots. Bytes are counted from 0, after clock run-in and framing code.
 
 ghost use Rattle.std.specs.Prelude.{◌≡◌, drop};
-ghost use Rattle.ttx_packet.specs.Slots.{is_empty, are_readable, are_words, packet_kind, read_number, is_clean};
+ghost use Rattle.ttx_packet.specs.Slots.{is_empty, packet_kind, read_number, is_clean};
 ghost use Rattle.ttx_packet.specs.Lent.{Lends, ShowsAs};
 
 use crate::place::Address;
-use ttx_code::{is_word, unham};
+use ttx_code::{are_readable, are_words, is_word, number_of, unham};
 
 /// What the 42 bytes of a slot are: the kind of packet, its address, and the bytes from which more can be read.
 #[derive(Clone, Copy)]
@@ -52,13 +52,6 @@ fn is_empty_slot(bytes: &[u8; 42]) -> bool
     bytes[0] == 0 && is_zero(bytes)
 }
 
-// Whether all bytes are readable as Hamming 8/4.
-fn is_readable(bytes: &[u8]) -> bool
-    ensures { result ≡ are_readable bytes.now }
-{
-    bytes.iter().all(|b| unham(*b).is_some())
-}
-
 // The kind of a packet with this address.
 #[tactic(auto, unfolding(crate::specs::Slots::packet_kind))]
 fn packet_of<'a>(bytes: &'a [u8; 42], at: Address) -> Slot<'a>
@@ -66,7 +59,7 @@ fn packet_of<'a>(bytes: &'a [u8; 42], at: Address) -> Slot<'a>
 {
     match at.number {
         0 => {
-            if is_readable(&bytes[2..10]) {
+            if are_readable(&bytes[2..10]) {
                 Slot::Header(at, bytes)
             } else {
                 Slot::Unreadable
@@ -107,18 +100,11 @@ pub fn slot_of<'a>(bytes: &'a [u8; 42]) -> Slot<'a>
     packet_of(bytes, Address { mag, number })
 }
 
-// Whether all bytes are code words.
-fn are_code_words(bytes: &[u8]) -> bool
-    ensures { result ≡ are_words bytes.now }
-{
-    bytes.iter().all(|b| is_word(*b))
-}
-
 // The packet number that the address reads as. An unreadable byte counts as 0.
-fn number_of(bytes: &[u8; 42]) -> u8
+fn packet_number(bytes: &[u8; 42]) -> u8
     ensures { result ≡ read_number bytes.now }
 {
-    unham(bytes[0]).unwrap_or(0) / 8 + 2 * unham(bytes[1]).unwrap_or(0)
+    number_of(bytes[0]) / 8 + 2 * number_of(bytes[1])
 }
 
 /// Whether the slot is clean: one wrong bit in each byte cannot turn it into another packet. It is empty, or the bytes
@@ -128,9 +114,9 @@ pub fn clean(bytes: &[u8; 42]) -> bool
     ensures { result ≡ is_clean bytes.now }
 {
     is_empty_slot(bytes)
-        || are_code_words(&bytes[0..2])
-            && match number_of(bytes) {
-                0 => are_code_words(&bytes[2..10]),
+        || are_words(&bytes[0..2])
+            && match packet_number(bytes) {
+                0 => are_words(&bytes[2..10]),
                 27 => is_word(bytes[2]),
                 _ => true,
             }
