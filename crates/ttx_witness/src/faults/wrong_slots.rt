@@ -2,16 +2,14 @@
 
 ghost use Rattle.std.specs.Prelude.{◌≡◌, ◌<◌, ◌/◌, ◌↔◌, ℕ, IsTrue, true, drop, map, slice_index};
 ghost use Rattle.ttx_code.specs.Words.{odd_byte};
-ghost use Rattle.ttx_links.specs.Sets.{is_exact};
 ghost use Rattle.ttx_page.specs.Packets.{packet_of};
 ghost use Rattle.ttx_page.specs.Steady.{erases_page, IsLikeHead, RowIsRight, LinksAreRight};
 ghost use Rattle.ttx_page.specs.Views.{page_of};
 ghost use Rattle.ttx_witness.specs.faults.Comparing.{compared_item, IsWrong};
 
 use crate::sent::packets::{header_in, links_in, row_in};
-use ttx_code::is_word;
 use ttx_header::{Control, Header};
-use ttx_links::{Links, Target, read_links};
+use ttx_links::{Links, Target, links_are_exact};
 use ttx_page::{Item, Page, RowNumber};
 
 /// What is compared in the transmissions of an item.
@@ -131,13 +129,6 @@ fn is_row_right(page: &Page, row: RowNumber, slot: &[u8; 42]) -> bool
     }
 }
 
-// Whether bytes 3 to 39 are code words.
-fn is_exact(slot: &[u8; 42]) -> bool
-    ensures { result ≡ is_exact slot.now }
-{
-    slot[3..40].iter().all(|b| is_word(*b))
-}
-
 // Whether two links are the same.
 fn same_link(a: Option<Target>, b: Option<Target>) -> bool
     ensures { IsTrue result ↔ (a ≡ b) }
@@ -168,13 +159,10 @@ pub fn same_links(a: &Links, b: &Links) -> bool
 fn are_links_right(page: &Page, slot: &[u8; 42]) -> bool
     ensures { IsTrue result ↔ LinksAreRight (page_of page.now) slot.now (packet_of slot.now) }
 {
-    let Some(at) = links_in(slot) else {
-        return false;
-    };
-    let Some(links) = read_links(at.mag, slot) else {
-        return false;
-    };
-    is_exact(slot) && same_links(&links, page.links())
+    match links_in(slot) {
+        Some(at) => links_are_exact(at.mag, slot, page.links()),
+        None => false,
+    }
 }
 
 /// How a slot differs from a page's header: it has the erase bit (C4), or other control bits or characters.
