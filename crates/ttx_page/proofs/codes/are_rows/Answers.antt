@@ -13,5 +13,5 @@ returns-clause-rows g c =
             (subst (λ n. r < n) (sym long) within);
       },
       λ are. c.are_codes.ensures.1 (λ k. subst (λ all. get_or all k 0 < 128) (sym flat)
-      (codes_of_joined rows (λ r within. are r (subst (λ n. r < n) long within)) k)),
+          (codes_of_joined rows (λ r within. are r (subst (λ n. r < n) long within)) k)),
     )
