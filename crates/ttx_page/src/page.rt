@@ -43,7 +43,6 @@ impl Page {
     ghost use Rattle.ttx_page.specs.Views.{page_of};
 
     /// A page with these fields. `None` if one of the rules of the type fails.
-    #[inline(always)]
     pub fn new(
         id: PageId,
         control: Control,

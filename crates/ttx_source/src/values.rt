@@ -43,7 +43,6 @@ fn compare_texts(first: &str, second: &str) -> Ordering
 }
 
 /// The value at a key; `None` if the table does not have the key.
-#[inline(always)]
 pub fn member<'a>(table: &'a Table, key: Key) -> Option<&'a Value>
     ensures { option_map (λ x. view x.now) result ≡ get_member (key_name key) (table_view table.now) }
 {
