@@ -1,4 +1,5 @@
 mod Unions
+mod JoinedRows
 mod Heights
 mod PageRules
 mod KeptRanges

@@ -22,11 +22,21 @@ pub(crate) fn is_head(head: &[u8; 24]) -> bool
     are_codes(head)
 }
 
-/// Whether all characters of a row are below 128.
-fn is_row(row: &[u8; 40]) -> bool
-    ensures { IsTrue result ↔ IsRow row.now }
+// The length of a row, which its type says.
+fn length_of(row: &[u8; 40]) -> usize
+    ensures value { result ≡ 40 }
+    ensures length { length row.now ≡ 40 }
 {
-    are_codes(row)
+    row.len()
+}
+
+// Each row has 40 characters. The loop has no effect, so no code is left of it.
+fn know_lengths<const N: usize>(rows: &[[u8; 40]; N])
+    ensures { (r : ℕ) → r < N → length (slice_index_or rows.now r []) ≡ 40 }
+{
+    for row in rows {
+        let _length = length_of(row);
+    }
 }
 
 /// Whether all characters of all rows are below 128.
@@ -34,10 +44,6 @@ pub(crate) fn are_rows<const N: usize>(rows: &[[u8; 40]; N]) -> bool
     ensures rows { IsTrue result ↔ ((r : ℕ) → r < N → IsRow (slice_index_or rows.now r [])) }
     ensures count { length rows.now ≡ N }
 {
-    for row in rows {
-        if !is_row(row) {
-            return false;
-        }
-    }
-    true
+    know_lengths(rows);
+    are_codes(rows.as_flattened())
 }

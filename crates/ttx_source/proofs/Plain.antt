@@ -1,5 +1,5 @@
 -- Texts: in a text of codes below 128 each character is one byte.
-use Rattle.std.proofs.Common.{◌≡◌, ◌<◌, ◌≤◌, ◌+◌, ◌-◌, ◌*◌, ◌&&◌, true, length, List, ℕ, zero, suc, nat_lt, bit_or, []}
+use Rattle.std.proofs.Common.{◌≡◌, ◌++◌, replicate, ◌<◌, ◌≤◌, ◌+◌, ◌-◌, ◌*◌, ◌&&◌, true, length, List, ℕ, zero, suc, nat_lt, bit_or, []}
 use Rattle.std.proofs.Common.{◌∷◌, arith, ap, refl, false, inl, inr}
 use Rattle.std.specs.List.{list_all}
 use Rattle.std.specs.Str.{chars, chars_after, continuation_len, lead_bits, IsAscii}
@@ -17,6 +17,12 @@ plain_ascii (b ∷ bs) h =
 
 pub plain_length : (bs : List ℕ) → list_all (λ b. nat_lt b 128) bs ≡ true → length (chars bs) ≡ length bs
 plain_length bs h = ap length (chars-IsAscii bs (plain_ascii bs h))
+
+-- spaces at the end change nothing
+pub plain_padded : (bs : List ℕ) (n : ℕ) → list_all (λ b. nat_lt b 128) (bs ++ replicate n 32) ≡ list_all (λ b. nat_lt b 128) bs
+plain_padded [] zero = refl
+plain_padded [] (suc n) = plain_padded [] n
+plain_padded (b ∷ bs) n = ap (λ rest. nat_lt b 128 && rest) (plain_padded bs n)
 
 -- bit 7 is clear in a union exactly if it is clear in both parts
 unions : agree_below (λ a. agree_below (λ b. nat_lt (bit_or a b) 128) (λ b. nat_lt a 128 && nat_lt b 128) 256) (λ _. true) 256 ≡ true

@@ -59,15 +59,16 @@ blank_is_row = record { length = refl; codes = spaces_below 40 }
 pub blank_are_rows : AreRows (replicate 24 blank)
 blank_are_rows r within = rw (get_or-replicate 24 r blank [] within) blank_is_row
 
--- 24 rows after one was written
-pub rows_set : (rows : List (List ℕ)) (i : ℕ) (row : List ℕ) → length rows ≡ 24 → AreRows rows → IsRow row → AreRows (set rows i row)
-rows_set rows i row long are is r within =
+-- the rows up to the one that was written are rows
+pub rows_set : (rows : List (List ℕ)) (i : ℕ) (row : List ℕ) → i < length rows → ((r : ℕ) → r < i → IsRow (get_or rows r [])) → IsRow row
+    → (r : ℕ) → r < i + 1 → IsRow (get_or (set rows i row) r [])
+rows_set rows i row here are is r within =
     elim (cases_Bool (r == i)) [
       | inl same ↦
           let e : r ≡ i = grind (arith, nat_tests) in
-          let here : i < length rows = omega (arith, e) in
           rw (e, get_or-set_same rows i row [] here) is
       | inr other ↦
           let ne : r ≢ i = grind (arith, nat_tests) in
-          rw (get_or-set_other rows i r row [] ne) (are r within)
+          let below : r < i = omega (arith, ne, within) in
+          rw (get_or-set_other rows i r row [] ne) (are r below)
     ]

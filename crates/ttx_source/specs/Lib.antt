@@ -1,6 +1,7 @@
 pub mod Accepted
 pub mod Documents
 pub mod Faults
+pub mod Frames
 pub mod KeyFaults
 pub mod Keys
 pub mod PromiseViews

@@ -4,8 +4,9 @@ ghost use Rattle.std.specs.Prelude.{◌≡◌, ◌≢◌, ◌<◌, ℕ, codes, t
 ghost use Rattle.toml.specs.View.{table_view};
 ghost use Rattle.ttx_header.specs.Ids.{IsId};
 ghost use Rattle.ttx_header.specs.Control.{c11};
-ghost use Rattle.ttx_page.specs.Pages.{IsPage, page_at};
+ghost use Rattle.ttx_page.specs.Pages.{IsPage};
 ghost use Rattle.ttx_page.specs.Views.{page_of};
+ghost use Rattle.ttx_source.specs.Frames.{page_in};
 ghost use Rattle.ttx_source.specs.Keys as rule;
 ghost use Rattle.ttx_source.specs.Services.{id_of_table, authored_at, authored_of, has_id};
 ghost use Rattle.ttx_source.specs.KeyFaults.{key_outcome};
@@ -14,7 +15,7 @@ use crate::controls::control;
 use crate::key_faults::KeyFault;
 use crate::keys::Key;
 use crate::links::links;
-use crate::rows::rows;
+use crate::rows::write_rows;
 use crate::services::Service;
 use crate::texts::{characters, page_number, subcode};
 use crate::values::{integer_or, text, text_or};
@@ -61,27 +62,47 @@ pub fn head(page: &Table) -> Result<[u8; 24], KeyFault>
     characters::<24>(text_or(page, Key::Head, "")?)
 }
 
-fn page_with(
+/// A page without its rows, and how often it is sent.
+#[derive(Clone, Copy)]
+pub struct Frame {
     id: PageId,
     control: Control,
     head: [u8; 24],
-    rows: [[u8; 40]; 24],
     links: Links,
-) -> Page
-    requires { IsPage (page_at id control.0 head rows links.set links.crc) }
-    ensures { page_of result ≡ page_at id control.0 head rows links.set links.crc }
-{
-    Page::new(id, control, head, rows, links).unwrap()
+    often: u8,
 }
 
-/// The page in a table, and how often it is sent. The pages of `service` are the earlier ones.
+impl Frame {
+    /// How often the page is sent.
+    pub fn often(&self) -> u8
+        ensures { result ≡ self.now.often }
+    {
+        self.often
+    }
+
+    /// The page with these rows.
+    pub fn page(&self, rows: &[[u8; 40]; 24]) -> Page
+        requires { IsPage (page_in self.now rows.now) }
+        ensures { page_of result ≡ page_in self.now rows.now }
+    {
+        Page::new(self.id, self.control, self.head, *rows, self.links).unwrap()
+    }
+}
+
+/// Reads the page in a table, and how often it is sent: writes its rows, and returns the others. The pages of `service` are the
+/// earlier ones.
 #[tactic(auto, unfolding(crate::specs::Services::authored_of))]
-pub fn page(table: &Table, service: &Service) -> Result<(Page, u8), KeyFault>
-    ensures value { key_outcome (λ p. authored_at (page_of p.0) p.1) result
+pub fn frame_of(
+    table: &Table,
+    service: &Service,
+    rows: &mut [[u8; 40]; 24],
+) -> Result<Frame, KeyFault>
+    ensures value { key_outcome (λ f. authored_at (page_in f rows.new) f.often) result
         ≡ authored_of service.now.serial service.now.pages (table_view table.now) }
-    ensures new { IfOk result (λ p. has_id service.now.pages (page_of p.0).id ≡ false) }
-    ensures c11 { IfOk result (λ p. c11 (page_of p.0).control ≡ service.now.serial) }
-    ensures often { IfOk result (λ p. rule.is_often p.1 ≡ true) }
+    ensures page { IfOk result (λ f. IsPage (page_in f rows.new)) }
+    ensures new { IfOk result (λ f. has_id service.now.pages f.id ≡ false) }
+    ensures c11 { IfOk result (λ f. c11 f.control.0 ≡ service.now.serial) }
+    ensures often { IfOk result (λ f. rule.is_often f.often ≡ true) }
 {
     let id = match id(table, service) {
         Ok(id) => id,
@@ -90,9 +111,15 @@ pub fn page(table: &Table, service: &Service) -> Result<(Page, u8), KeyFault>
     let often = often(table)?;
     let control = control(table, service.serial())?;
     let head = head(table)?;
-    let rows = rows(table)?;
+    write_rows(table, rows)?;
     match links(table) {
-        Ok(links) => Ok((page_with(id, control, head, rows, links), often)),
+        Ok(links) => Ok(Frame {
+            id,
+            control,
+            head,
+            links,
+            often,
+        }),
         Err(fault) => Err(fault),
     }
 }

@@ -5,7 +5,8 @@ ghost use Rattle.std.specs.List.{list_all};
 ghost use Rattle.toml.specs.Data.{as_table};
 ghost use Rattle.toml.specs.View.{table_view, items_view, view};
 ghost use Rattle.ttx_header.specs.Control.{c11};
-ghost use Rattle.ttx_page.specs.Views.{page_of};
+ghost use Rattle.ttx_page.specs.Pages.{IsPage};
+ghost use Rattle.ttx_source.specs.Frames.{page_in};
 ghost use Rattle.ttx_source.specs.Keys.{is_often};
 ghost use Rattle.ttx_source.specs.Services.{authored_at, has_id};
 ghost use Rattle.ttx_source.specs.Services as rule;
@@ -18,12 +19,12 @@ use crate::info_table::info;
 use crate::key_faults::{KeyFault, ReadFault};
 use crate::keys::Key;
 use crate::links::count;
-use crate::page_table::page;
+use crate::page_table::{Frame, frame_of};
+use crate::rows::blank_rows;
 use crate::services::Service;
 use crate::values::{array_of, boolean, integer, member, table_of};
 use std::alloc::Global;
 use toml::{Table, Value};
-use ttx_page::Page;
 
 // The service in a table, without its pages.
 #[tactic(auto, unfolding(crate::specs::Services::settings_of))]
@@ -69,20 +70,27 @@ pub fn page_tables<'a>(table: &'a Table) -> Result<&'a [Value], KeyFault>
     Ok(values)
 }
 
-// The page in a value. The pages of `service` are the earlier ones; `number` counts this one from 1.
-fn next_page(value: &Value, number: usize, service: &Service) -> Result<(Page, u8), ReadFault>
+// Reads the page in a value: writes its rows, and returns the others. The pages of `service` are the earlier ones; `number` counts
+// this one from 1.
+fn next_frame(
+    value: &Value,
+    number: usize,
+    service: &Service,
+    rows: &mut [[u8; 40]; 24],
+) -> Result<Frame, ReadFault>
     requires { number ≡ length service.now.pages + 1 }
-    ensures value { read_outcome (λ p. authored_at (page_of p.0) p.1) result ≡ rule.next_page service.now (view value.now) }
-    ensures new { IfOk result (λ p. has_id service.now.pages (page_of p.0).id ≡ false) }
-    ensures c11 { IfOk result (λ p. c11 (page_of p.0).control ≡ service.now.serial) }
-    ensures often { IfOk result (λ p. is_often p.1 ≡ true) }
+    ensures value { read_outcome (λ f. authored_at (page_in f rows.new) f.often) result ≡ rule.next_page service.now (view value.now) }
+    ensures page { IfOk result (λ f. IsPage (page_in f rows.new)) }
+    ensures new { IfOk result (λ f. has_id service.now.pages f.id ≡ false) }
+    ensures c11 { IfOk result (λ f. c11 f.control.0 ≡ service.now.serial) }
+    ensures often { IfOk result (λ f. is_often f.often ≡ true) }
 {
     let table = match table_of(value, Key::Page) {
         Ok(table) => table,
         Err(fault) => return Err(ReadFault::InPage { page: 0, fault }),
     };
-    match page(table, service) {
-        Ok(page) => Ok(page),
+    match frame_of(table, service, rows) {
+        Ok(frame) => Ok(frame),
         Err(fault) => Err(ReadFault::InPage {
             page: number,
             fault,
@@ -96,12 +104,13 @@ fn with_pages(mut service: Service, values: &[Value]) -> Result<Service, ReadFau
     requires most { length values.now ≤ 2000 }
     ensures { IsReadUnlessMemory result (read_outcome (λ s. s) result ≡ rule.with_pages service (items_view values.now)) }
 {
+    let mut rows = blank_rows();
     for (index, value) in values.iter().enumerate() {
-        let (page, often) = match next_page(value, index + 1, &service) {
-            Ok(page) => page,
+        let frame = match next_frame(value, index + 1, &service, &mut rows) {
+            Ok(frame) => frame,
             Err(fault) => return Err(fault),
         };
-        match service.add(page, often) {
+        match service.add(frame.page(&rows), frame.often()) {
             Ok(()) => {}
             Err(_) => return Err(ReadFault::NoMemory),
         }

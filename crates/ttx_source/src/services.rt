@@ -121,7 +121,7 @@ impl Service {
             Ok(_) => {}
             Err(_) => return Err(AllocError),
         }
-        self.pages.push(page).unwrap();
+        self.pages.push_reserved(page);
         Ok(())
     }
 }

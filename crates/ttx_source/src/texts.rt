@@ -45,14 +45,36 @@ fn long_fault(text: &str, most: usize) -> KeyFault
     }
 }
 
-// The bytes, filled with spaces at the end.
-fn padded<const N: usize>(bytes: &[u8]) -> [u8; N]
-    requires { length bytes.now ≤ N }
-    ensures { result ≡ bytes.now ++ replicate (N - length bytes.now) 32 }
+fn spaces<const N: usize>() -> [u8; N]
+    ensures { result ≡ replicate N 32 }
 {
-    let mut codes = [b' '; N];
+    [b' '; N]
+}
+
+// Writes the bytes, filled with spaces at the end.
+fn pad<const N: usize>(codes: &mut [u8; N], bytes: &[u8])
+    requires { length bytes.now ≤ N }
+    ensures { codes.new ≡ bytes.now ++ replicate (N - length bytes.now) 32 }
+{
+    *codes = spaces();
     codes[..bytes.len()].copy_from_slice(bytes);
-    codes
+}
+
+/// Writes the character codes of a text of at most `N` characters, filled with spaces. `RowTooLong` or `Character` otherwise.
+pub fn write_characters<const N: usize>(codes: &mut [u8; N], text: &str) -> Result<(), KeyFault>
+    ensures value { key_outcome (λ _. codes.new) result ≡ rule.characters N text.now }
+    ensures codes { IfOk result (λ _. (c : ℕ) → slice_index codes.new c < 128) }
+{
+    let bytes = text.as_bytes();
+    if bytes.len() > N {
+        return Err(long_fault(text, N));
+    }
+    pad(codes, bytes);
+    if is_plain(codes) {
+        Ok(())
+    } else {
+        Err(KeyFault::Character)
+    }
 }
 
 /// The character codes of a text of at most `N` characters, filled with spaces. `RowTooLong` or `Character` otherwise.
@@ -60,15 +82,9 @@ pub fn characters<const N: usize>(text: &str) -> Result<[u8; N], KeyFault>
     ensures value { key_outcome (λ r. r) result ≡ rule.characters N text.now }
     ensures codes { IfOk result (λ row. (c : ℕ) → slice_index row c < 128) }
 {
-    let bytes = text.as_bytes();
-    if bytes.len() > N {
-        return Err(long_fault(text, N));
-    }
-    if is_plain(bytes) {
-        Ok(padded::<N>(bytes))
-    } else {
-        Err(KeyFault::Character)
-    }
+    let mut codes = spaces();
+    write_characters(&mut codes, text)?;
+    Ok(codes)
 }
 
 /// The magazine and the page number of a text `MPP`; `PageNumber` if it is not one.

@@ -1,7 +1,7 @@
-use Rattle.std.proofs.Common.{◌≡◌, ◌∙◌, ◌<◌, ◌≤◌, length, sym, ap, arith, inr}
+use Rattle.std.proofs.Common.{◌≡◌, ◌∙◌, ◌<◌, ◌≤◌, length, sym, ap, ap₂, arith, inr}
 use Rattle.std.proofs.lemmas.Grind.{common_steps}
 use Rattle.toml.specs.View.{view}
-use Rattle.ttx_page.specs.Views.{page_of}
+use Rattle.ttx_source.specs.Frames.{page_in}
 use Rattle.ttx_source.specs.Services.{authored_at, with_page, next_page}
 use Rattle.ttx_source.proofs.PageArray.{after_more, after_fault, after_end}
 use Rattle.ttx_source.proofs.reader.with_pages.Goals as goal
@@ -17,7 +17,8 @@ loop-index-preserved c =
     let here : c.loop-index.index < length c.args.values.now = omega arith in
     let found = ap (λ v. next_page c.loop-index.service (view v)) (sym c.index-values-index.is) ∙ sym c.in-Ok.ensures.value in
     let counted = c.loop-index.invariant.count in
-    let added : c.add.new.self ≡ with_page c.loop-index.service (authored_at (page_of c.in-Ok.page.0) c.in-Ok.page.1) = c.in-Ok-add.ensures.ok in
+    let added : c.add.new.self ≡ with_page c.loop-index.service (authored_at (page_in c.in-Ok.frame c.next_frame.new.rows) c.in-Ok.frame.often) =
+    c.in-Ok-add.ensures.ok ∙ ap₂ (λ page often. with_page c.loop-index.service (authored_at page often)) c.page.ensures c.often.ensures in
     record {
       count = rw added (grind (arith, common_steps, counted));
       so_far = rw added (c.loop-index.invariant.so_far ∙ after_more _ _ _ _ _ here found);

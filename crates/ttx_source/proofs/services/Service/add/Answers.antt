@@ -1,4 +1,4 @@
-use Rattle.std.proofs.Common.{◌≡◌, ◌∙◌, ◌<◌, ◌++◌, ◌∷◌, [], false, true, ap, sym, subst, refl, rules, is_ok, length, map}
+use Rattle.std.proofs.Common.{◌≡◌, ◌∙◌, ◌<◌, ◌++◌, ◌∷◌, [], false, ap, sym, subst, refl, length, map}
 use Rattle.std.specs.List.{list_any}
 use Rattle.std.proofs.lemmas.List.{map-append}
 use Rattle.indexmap.proofs.CallerLemmas.{insert_entry-new}
@@ -21,8 +21,7 @@ invariant_of-self-2 c =
     let absent = is_none _ (found_any c.id.result es ∙ ap (list_any (same_id c.id.result)) order ∙ lacks) in
     let added : c.insert.new.self.entries ≡ es ++ (c.id.result, c.args.often) ∷ [] =
     c.in-Ok.ensures.entries ∙ insert_entry-new _ c.self.inside.often c.id.result c.args.often absent in
-    let room : is_ok c.push.result ≡ true = search rules in
-    let pushed : c.push.new.self.items ≡ ps ++ c.args.page ∷ [] = c.push.ensures.items ∙ rw (room, c.reserve.ensures.items) refl in
+    let pushed : c.push_reserved.new.self.items ≡ ps ++ c.args.page ∷ [] = c.push_reserved.ensures.items ∙ rw (c.reserve.ensures.items) refl in
     record {
       same_order = rw (added, pushed)
           (keys_of-push es c.id.result c.args.often
@@ -47,9 +46,8 @@ returns-clause-ok c =
     let absent = is_none _ (found_any c.id.result es ∙ ap (list_any (same_id c.id.result)) order ∙ lacks) in
     let added : c.insert.new.self.entries ≡ es ++ (c.id.result, c.args.often) ∷ [] =
     c.in-Ok.ensures.entries ∙ insert_entry-new _ c.self.inside.often c.id.result c.args.often absent in
-    let room : is_ok c.push.result ≡ true = search rules in
-    let pushed : c.push.new.self.items ≡ ps ++ c.args.page ∷ [] = c.push.ensures.items ∙ rw (room, c.reserve.ensures.items) refl in
-    let pages : authored_pages c.push.new.self.items c.insert.new.self.entries ≡ authored_pages ps es
+    let pushed : c.push_reserved.new.self.items ≡ ps ++ c.args.page ∷ [] = c.push_reserved.ensures.items ∙ rw (c.reserve.ensures.items) refl in
+    let pages : authored_pages c.push_reserved.new.self.items c.insert.new.self.entries ≡ authored_pages ps es
     ++ authored_at (page_of c.args.page) c.args.often ∷ [] =
     rw (added, pushed) (authored_pages-push ps es c.args.page (c.id.result, c.args.often) same) in
     ap (service_at c.self.inside.lines c.self.inside.serial c.self.inside.info) pages

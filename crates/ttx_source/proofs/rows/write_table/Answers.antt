@@ -4,7 +4,7 @@ use Rattle.toml.specs.View.{members_view, table_view, view}
 use Rattle.ttx_source.specs.Keys.{is_row_key, keys_pass, row_keys, rows_of}
 use Rattle.ttx_source.proofs.RowTable.{seen}
 use Rattle.ttx_source.proofs.RowValues.{all_values, keys_fault, keys_more, last_member, one_more}
-use Rattle.ttx_source.proofs.rows.rows_in.Goals as goal
+use Rattle.ttx_source.proofs.rows.write_table.Goals as goal
 
 pub loop-key-init : goal.loop-key-init
 loop-key-init c =
@@ -50,4 +50,4 @@ returns-clause-value c =
     let known : keys_pass is_row_key (table_view c.args.table.now) ≡ true = was.keys ∙ rw over refl in
     let values = all_values c.loop-key.values c.args.table.now.entries was.long c.iter-key-items.ensures.ordered
     (λ r within. rw over at (was.found r within)) in
-    rw known (c.rows_of.ensures.value ∙ ap rows_of values)
+    rw known (c.write_values.ensures.value ∙ ap rows_of values)

@@ -3,7 +3,7 @@ use Rattle.toml.specs.View.{members_view}
 use Rattle.ttx_source.specs.Keys.{row_keys, is_row_key, keys_pass}
 use Rattle.ttx_source.proofs.RowTable.{seen}
 use Rattle.ttx_source.proofs.RowValues.{last_member}
-use Rattle.ttx_source.proofs.rows.rows_in.Given as goal
+use Rattle.ttx_source.proofs.rows.write_table.Given as goal
 
 -- the keys so far are numbers of rows, and the values so far are final unless one of the entries left has their key
 abbrev pub invariant-loop-key : goal.invariant-loop-key
