@@ -1,9 +1,6 @@
 //! The values at the keys of a table, by their kind.
 
-ghost use Rattle.std.specs.Ordering.{nat_cmp};
-ghost use Rattle.std.specs.BTreeMap.Comparable.{le_lt_trans};
-ghost use Rattle.std.specs.Cmp.Lexicographic.{slice_cmp, nat_list_cmp_total};
-ghost use Rattle.std.specs.Prelude.{◌≡◌, ◌≤◌, false, string_bytes, option_map, IfOk};
+ghost use Rattle.std.specs.Prelude.{◌≡◌, ◌≤◌, false, option_map, IfOk};
 ghost use Rattle.toml.specs.Data.{as_integer, as_bool, as_str, as_array, as_table, get_member};
 ghost use Rattle.toml.specs.View.{table_view, array_view, view};
 ghost use Rattle.ttx_source.specs.Values as rule;
@@ -12,41 +9,13 @@ ghost use Rattle.ttx_source.specs.KeyFaults.{key_outcome, key_name};
 
 use crate::key_faults::KeyFault;
 use crate::keys::Key;
-use std::cmp::Ordering;
-use std::collections::btree_map::Comparable;
 use toml::{Table, Value};
-
-// The name of a key, as a query of a table. Most keys differ in their first byte.
-#[derive(Clone, Copy)]
-struct Name<'a>(&'a str);
-
-impl<'a> Comparable<String> for Name<'a> {
-    ghost compare = { λ q k. slice_cmp nat_cmp q.0.now (string_bytes k) };
-
-    ghost respects_cmp = { λ q x y. nat_list_cmp_total.congr q.0.now (string_bytes x) (string_bytes y) };
-
-    ghost below_greater = { λ q x y. le_lt_trans nat_list_cmp_total q.0.now (string_bytes x) (string_bytes y) };
-
-    fn compare(&self, key: &String) -> Ordering {
-        compare_texts(self.0, key.as_str())
-    }
-}
-
-// The order of two texts, by their first bytes if these differ.
-fn compare_texts(first: &str, second: &str) -> Ordering
-    ensures { result ≡ slice_cmp nat_cmp first.now second.now }
-{
-    match (first.as_bytes(), second.as_bytes()) {
-        ([a, ..], [b, ..]) if a != b => a.cmp(b),
-        _ => first.cmp(second),
-    }
-}
 
 /// The value at a key; `None` if the table does not have the key.
 pub fn member<'a>(table: &'a Table, key: Key) -> Option<&'a Value>
     ensures { option_map (λ x. view x.now) result ≡ get_member (key_name key) (table_view table.now) }
 {
-    table.get(Name(key.name()))
+    table.get(key.name())
 }
 
 // The value at a required key.
