@@ -125,13 +125,7 @@ fn note_transmission(
 }
 
 // Notes all transmissions of item `number` in a period.
-fn note_all(
-    first: &mut FirstSlots,
-    cycle: &Cycle,
-    page: &Page,
-    number: u8,
-    sent: &[Transmission],
-)
+fn note_all(first: &mut FirstSlots, cycle: &Cycle, page: &Page, number: u8, sent: &[Transmission])
     ensures { (lines : ℕ) (item : ItemValue) → IsItem item → item_number item ≡ number →
         sent.now ≡ sent_in (slots_of cycle.now) (page_of page.now).id lines item →
         AreFirstTaken (page_of page.now) (repeated (slots_of cycle.now)) (TakenBelow (slots_of cycle.now) (page_of page.now).id number) first.old →

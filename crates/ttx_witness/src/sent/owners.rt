@@ -89,7 +89,11 @@ pub fn entry_owners(index: &PageIndex, cycle: &Cycle) -> [Option<Owner>; 8]
     let period = slots.len() as i32;
     let mut owners = [None; 8];
     for j in 0..slots.len() {
-        note_owner(&mut owners, &indexed_header(index, &slots[j]), j as i32 - period);
+        note_owner(
+            &mut owners,
+            &indexed_header(index, &slots[j]),
+            j as i32 - period,
+        );
     }
     owners
 }
