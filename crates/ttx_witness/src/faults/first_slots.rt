@@ -1,7 +1,7 @@
 //! For each reason about a page the first slot where it is true, kept while the page's transmissions are taken one by one, in any
 //! order; and the first of these reasons.
 
-ghost use Rattle.std.specs.Prelude.{◌≡◌, ◌<◌, ◌↔◌, ◌==◌, ℕ, List, IsTrue, true};
+ghost use Rattle.std.specs.Prelude.{◌≡◌, ◌≢◌, ◌<◌, ◌↔◌, ◌==◌, ℕ, List, IsTrue, true};
 ghost use Rattle.ttx_page.specs.Pages as definitions;
 ghost use Rattle.ttx_page.specs.Views.{page_of};
 ghost use Rattle.ttx_witness.specs.sent.Collected.{item_number};
@@ -10,7 +10,7 @@ ghost use Rattle.ttx_witness.specs.faults.Faults.{AreFirst, IsPageFault};
 ghost use Rattle.ttx_witness.specs.faults.FirstSlots.{earlier, noted, RowWrong, IsAfter, none_yet};
 
 use crate::faults::reason::Reason;
-use crate::faults::wrong_slots::{Check, HeadFaults, head_faults, is_wrong};
+use crate::faults::wrong_slots::{Check, head_faults, is_wrong};
 use ttx_header::PageId;
 use ttx_page::{Item, Page, RowNumber, needed};
 
@@ -57,28 +57,6 @@ fn noted(first: Option<u32>, is: bool, at: u32) -> Option<u32>
     if is { Some(earlier(first, at)) } else { first }
 }
 
-// Whether the slot sends the item that is compared, and differs from the page. `sent` says whether it sends the item.
-fn sends_wrong(page: &Page, check: &Check, slot: &[u8; 42], sent: bool) -> bool
-    ensures { IsTrue result ↔ ((sent ≡ true) × IsWrong (page_of page.now) check.now slot.now) }
-{
-    sent && is_wrong(page, check, slot)
-}
-
-// How the slot differs from the page's header, if it sends one. `sent` says whether it does.
-fn sent_head_faults(page: &Page, slot: &[u8; 42], sent: bool) -> HeadFaults
-    ensures erases { IsTrue result.erases ↔ ((sent ≡ true) × IsWrong (page_of page.now) Check.EraseBit slot.now) }
-    ensures differs { IsTrue result.differs ↔ ((sent ≡ true) × IsWrong (page_of page.now) Check.Head slot.now) }
-{
-    if sent {
-        head_faults(page, slot)
-    } else {
-        HeadFaults {
-            erases: false,
-            differs: false,
-        }
-    }
-}
-
 // Whether the slot differs from the page in the row with this number, and a viewer sees the row.
 fn is_row_wrong(page: &Page, number: u8, slot: &[u8; 42]) -> bool
     ensures { IsTrue result ↔ RowWrong (page_of page.now) (λ item. item_number item == number) slot.now }
@@ -89,31 +67,40 @@ fn is_row_wrong(page: &Page, number: u8, slot: &[u8; 42]) -> bool
     }
 }
 
-// The first slots after slot `at`, which sends item `number` of the page.
-fn after_item(first: FirstSlots, page: &Page, number: u8, slot: &[u8; 42], at: u32) -> FirstSlots
-    ensures { IsAfter (page_of page.now) (λ item. item_number item == number) slot.now at first result }
+// Notes slot `at`, which sends a header of the page.
+fn note_head(first: &mut FirstSlots, page: &Page, slot: &[u8; 42], at: u32)
+    ensures { IsAfter (page_of page.now) (λ item. item_number item == 0) slot.now at first.old first.new }
 {
-    let (is_head, is_links) = (0 == number, 25 == number);
-    let head = sent_head_faults(page, slot, is_head);
-    let links = sends_wrong(page, &Check::Links, slot, is_links);
-    FirstSlots {
-        has_header: first.has_header || is_head,
-        other_subpage: first.other_subpage,
-        erased: noted(first.erased, head.erases, at),
-        head: noted(first.head, head.differs, at),
-        row: noted(first.row, is_row_wrong(page, number, slot), at),
-        links: noted(first.links, links, at),
-    }
+    let faults = head_faults(page, slot);
+    first.has_header = true;
+    first.erased = noted(first.erased, faults.erases, at);
+    first.head = noted(first.head, faults.differs, at);
 }
 
-/// Notes slot `at`, which sends item `number` of the page. Most slots send rows, and of a row only one field can change.
+// Notes slot `at`, which sends the links of the page.
+fn note_links(first: &mut FirstSlots, page: &Page, slot: &[u8; 42], at: u32)
+    ensures { IsAfter (page_of page.now) (λ item. item_number item == 25) slot.now at first.old first.new }
+{
+    first.links = noted(first.links, is_wrong(page, &Check::Links, slot), at);
+}
+
+// Notes slot `at`, which sends row `number` of the page.
+fn note_row(first: &mut FirstSlots, page: &Page, number: u8, slot: &[u8; 42], at: u32)
+    requires above { 0 < number }
+    requires other { number ≢ 25 }
+    ensures { IsAfter (page_of page.now) (λ item. item_number item == number) slot.now at first.old first.new }
+{
+    first.row = noted(first.row, is_row_wrong(page, number, slot), at);
+}
+
+/// Notes slot `at`, which sends item `number` of the page.
 pub fn note_item(first: &mut FirstSlots, page: &Page, number: u8, slot: &[u8; 42], at: u32)
     ensures { IsAfter (page_of page.now) (λ item. item_number item == number) slot.now at first.old first.new }
 {
-    if 0 < number && number < 25 {
-        first.row = noted(first.row, is_row_wrong(page, number, slot), at);
-    } else {
-        *first = after_item(*first, page, number, slot, at);
+    match number {
+        0 => note_head(first, page, slot, at),
+        25 => note_links(first, page, slot, at),
+        _ => note_row(first, page, number, slot, at),
     }
 }
 

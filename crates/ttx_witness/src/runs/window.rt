@@ -83,8 +83,10 @@ pub fn turn(firsts: &mut ArrayVec<Transmission, 7>, period: u32) -> Transmission
     requires short { period ≤ 65536 }
     ensures { IsTurn period firsts.old.items result firsts.new.items }
 {
-    let t = later(firsts.remove(0), period);
-    firsts.push(t);
+    let slots = firsts.as_mut_slice();
+    let t = later(slots[0], period);
+    slots[0] = t;
+    slots.rotate_left(1);
     t
 }
 
