@@ -15,5 +15,5 @@ mod writer;
 pub use control::Control;
 pub use headers::Header;
 pub use ids::PageId;
-pub use reader::read_header;
+pub use reader::{read_header, read_id};
 pub use writer::{time_fill, write_header};

@@ -1,7 +1,8 @@
 //! Reads page headers.
 
-ghost use Rattle.std.specs.Prelude.{◌≡◌, true, SomeIff, slice_range};
-ghost use Rattle.ttx_header.specs.Headers.{is_header, header_fields_of};
+ghost use Rattle.std.specs.Prelude.{◌≡◌, true, IfSome, SomeIff, slice_range};
+ghost use Rattle.ttx_header.specs.Control.{IsControl};
+ghost use Rattle.ttx_header.specs.Headers.{is_header, id_of, control_of, header_fields_of};
 
 use crate::control::Control;
 use crate::headers::Header;
@@ -24,11 +25,12 @@ fn clock_of(bytes: &[u8; 42]) -> [u8; 8]
     clock
 }
 
-/// Reads the page header in the 42 bytes of a slot (EN 300 706, 9.3.1). `None` if one of bytes 0 to 9 is unreadable, or the
-/// packet number is not 0.
+/// Reads the id and the control bits of the page header in the 42 bytes of a slot (EN 300 706, 9.3.1). `None` if one of bytes 0
+/// to 9 is unreadable, or the packet number is not 0.
 #[inline(always)]
-pub fn read_header(bytes: &[u8; 42]) -> Option<Header>
-    ensures { SomeIff result (is_header bytes.now ≡ true) (header_fields_of bytes.now) }
+pub fn read_id(bytes: &[u8; 42]) -> Option<(PageId, Control)>
+    ensures value { SomeIff result (is_header bytes.now ≡ true) (id_of bytes.now, record { 0 = control_of bytes.now }) }
+    ensures control { IfSome result (λ heading. IsControl heading.1.0) }
 {
     // Most packets are rows, so the packet number is looked at first.
     let low = number_at(bytes, 0);
@@ -51,5 +53,15 @@ pub fn read_header(bytes: &[u8; 42]) -> Option<Header>
         + 8 * u16::from(number_at(bytes, 8))
         + 128 * u16::from(number_at(bytes, 9));
     let id = PageId::new(mag, number_at(bytes, 2) + 16 * number_at(bytes, 3), sub)?;
-    Header::new(id, Control(control), text_of(bytes), clock_of(bytes))
+    Some((id, Control(control)))
+}
+
+/// Reads the page header in the 42 bytes of a slot (EN 300 706, 9.3.1). `None` if one of bytes 0 to 9 is unreadable, or the
+/// packet number is not 0.
+#[inline(always)]
+pub fn read_header(bytes: &[u8; 42]) -> Option<Header>
+    ensures { SomeIff result (is_header bytes.now ≡ true) (header_fields_of bytes.now) }
+{
+    let (id, control) = read_id(bytes)?;
+    Header::new(id, control, text_of(bytes), clock_of(bytes))
 }
