@@ -43,7 +43,7 @@ pub use sent::collection::{collect, collect_after};
 pub use sent::indexed_headers::{IndexedHeader, indexed_header};
 pub use sent::one_slot;
 pub use sent::owners::{Owner, note_owner};
-pub use sent::packets::{header_in, heads_page, mine_after, row_in, sends};
+pub use sent::packets::{header_in, heads_page, id_in, mine_after, row_in, sends};
 pub use sent::page_index::{PageIndex, index_of, place_of};
 pub use sent::page_items::{item_of, run_length};
 pub use ttx_certificate::{

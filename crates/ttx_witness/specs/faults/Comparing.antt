@@ -1,6 +1,6 @@
 -- How pages are compared with the slots that send them.
 --
---   HoldsHeader, HoldsNoHeader      the packet is this header; it is no header
+--   HoldsHeader, HoldsId, HoldsNoHeader     the packet is this header; it has this id and these control bits; it is no header
 --   HoldsRow, HoldsNoRow, HoldsLinks, HoldsNoLinks  the same for rows and links
 --   mine_after, sends       whether the magazine's latest header is the page's after a slot; whether a slot sends an item
 --   is_mine, is_number_of   whether an owner is a header of the page; whether a number is that of an item
@@ -29,6 +29,10 @@ pub record HoldsHeader (header : HeaderFields) (packet : Packet) : Type 0 where
   pub text : List ℕ
   pub is : packet ≡ Header header.id header.control text
   pub same : take 24 text ≡ header.text
+
+-- the slot is a header with this id and these control bits
+abbrev pub HoldsId : Id → ℕ → List ℕ → Type 0
+HoldsId id control slot = packet_of slot ≡ Header id control (drop 10 slot)
 
 abbrev pub HoldsNoHeader : Packet → Type 0
 HoldsNoHeader (Header id control text) = ⊥

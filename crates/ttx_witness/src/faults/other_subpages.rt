@@ -10,7 +10,7 @@ ghost use Rattle.ttx_witness.specs.sent.IndexedHeaders.{IsHeaderOf};
 
 use crate::faults::subcodes::{NUMBERS, Subcodes, is_other, place, subcodes_of};
 use crate::sent::indexed_headers::IndexedHeader;
-use crate::sent::packets::header_in;
+use crate::sent::packets::id_in;
 use std::alloc::Global;
 use ttx_certificate::NoMemory;
 use ttx_cycle::Cycle;
@@ -75,8 +75,8 @@ fn note_slot(first: &mut Vec<Option<u32>>, subcodes: &[Subcodes], slot: &[u8; 42
         get_or first.new.items (place mag number) None
         ≡ first_of (get_or first.old.items (place mag number) None) (heads_other subcodes.now mag number (packet_of slot.now)) j }
 {
-    if let Some(header) = header_in(slot) {
-        note_id(first, subcodes, header.id(), j);
+    if let Some((id, _)) = id_in(slot) {
+        note_id(first, subcodes, id, j);
     }
 }
 

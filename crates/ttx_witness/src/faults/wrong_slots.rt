@@ -1,14 +1,14 @@
 //! Compares pages with the slots that send them.
 
-ghost use Rattle.std.specs.Prelude.{◌≡◌, ◌<◌, ◌/◌, ◌↔◌, ℕ, IsTrue, true, drop, map, slice_index};
+ghost use Rattle.std.specs.Prelude.{◌≡◌, ◌<◌, ◌/◌, ◌↔◌, ℕ, IsTrue, true, drop, take, map, slice_index};
 ghost use Rattle.ttx_code.specs.Words.{odd_byte};
 ghost use Rattle.ttx_page.specs.Packets.{packet_of};
 ghost use Rattle.ttx_page.specs.Steady.{erases_page, IsLikeHead, RowIsRight, LinksAreRight};
 ghost use Rattle.ttx_page.specs.Views.{page_of};
 ghost use Rattle.ttx_witness.specs.faults.Comparing.{compared_item, IsWrong};
 
-use crate::sent::packets::{header_in, links_in, row_in};
-use ttx_header::{Control, Header};
+use crate::sent::packets::{id_in, links_in, row_in};
+use ttx_header::Control;
 use ttx_links::{Links, Target, links_are_exact};
 use ttx_page::{Item, Page, RowNumber};
 
@@ -79,8 +79,8 @@ fn is_row_sent(bytes: &[u8; 40], characters: &[u8; 40]) -> bool
 fn erases(slot: &[u8; 42]) -> bool
     ensures { IsTrue result ↔ (erases_page (packet_of slot.now) ≡ true) }
 {
-    match header_in(slot) {
-        Some(header) => header.control().erases_page(),
+    match id_in(slot) {
+        Some((_, control)) => control.erases_page(),
         None => false,
     }
 }
@@ -92,12 +92,13 @@ fn same_bits(a: Control, b: Control) -> bool
     a.0 / 2 == b.0 / 2
 }
 
-// Whether a header has the page's control bits, except C4, and its characters.
-fn is_headed(page: &Page, header: &Header) -> bool
+// Whether a header with these control bits has those of the page, except C4, and its characters.
+fn is_headed(page: &Page, control: Control, slot: &[u8; 42]) -> bool
     requires { (c : ℕ) → slice_index (page_of page.now).head c < 128 }
-    ensures { IsTrue result ↔ ((header.now.control / 2 ≡ (page_of page.now).control / 2) × (header.now.text ≡ map odd_byte (page_of page.now).head)) }
+    ensures { IsTrue result ↔ ((control.0 / 2 ≡ (page_of page.now).control / 2)
+        × (take 24 (drop 10 slot.now) ≡ map odd_byte (page_of page.now).head)) }
 {
-    same_bits(header.control(), page.control()) && are_sent(header.text(), page.head())
+    same_bits(control, page.control()) && are_sent(&slot[10..34], page.head())
 }
 
 // Whether the slot is a header with the page's control bits, except C4, and its characters.
@@ -105,8 +106,8 @@ fn is_like_head(page: &Page, slot: &[u8; 42]) -> bool
     ensures { IsTrue result ↔ IsLikeHead (page_of page.now) (packet_of slot.now) }
 {
     ttx_page::laws::pages_keep_their_rules();
-    match header_in(slot) {
-        Some(header) => is_headed(page, &header),
+    match id_in(slot) {
+        Some((_, control)) => is_headed(page, control, slot),
         None => false,
     }
 }
@@ -178,10 +179,10 @@ pub fn head_faults(page: &Page, slot: &[u8; 42]) -> HeadFaults
     ensures differs { IsTrue result.differs ↔ IsWrong (page_of page.now) Check.Head slot.now }
 {
     ttx_page::laws::pages_keep_their_rules();
-    match header_in(slot) {
-        Some(header) => HeadFaults {
-            erases: header.control().erases_page(),
-            differs: !is_headed(page, &header),
+    match id_in(slot) {
+        Some((_, control)) => HeadFaults {
+            erases: control.erases_page(),
+            differs: !is_headed(page, control, slot),
         },
         None => HeadFaults {
             erases: false,

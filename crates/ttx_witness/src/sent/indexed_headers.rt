@@ -5,9 +5,8 @@ ghost use Rattle.ttx_header.specs.Ids.{Id};
 ghost use Rattle.ttx_witness.specs.sent.Collected.{IsIndex};
 ghost use Rattle.ttx_witness.specs.sent.IndexedHeaders.{IsHeaderOf};
 
-use crate::sent::packets::read_header;
 use crate::sent::page_index::{PageIndex, place_of};
-use ttx_header::PageId;
+use ttx_header::{PageId, read_id};
 
 /// A page header: its id, whether it ends the pages of all magazines (C11), and the index of its page in the list of pages, if the page
 /// is listed.
@@ -26,15 +25,12 @@ pub fn indexed_header(index: &PageIndex, slot: &[u8; 42]) -> Option<IndexedHeade
     ttx_cycle::arrays::is_slot(slot);
     ttx_header::laws::headers_have_fields();
     ttx_header::laws::headers_are_headers();
-    match read_header(slot) {
-        Some(header) => {
-            let id = header.id();
-            Some(IndexedHeader {
-                id,
-                is_serial: header.control().is_serial(),
-                page: place_of(index, id),
-            })
-        }
+    match read_id(slot) {
+        Some((id, control)) => Some(IndexedHeader {
+            id,
+            is_serial: control.is_serial(),
+            page: place_of(index, id),
+        }),
         None => None,
     }
 }

@@ -1,32 +1,20 @@
 //! The packets in slots: headers, rows and links.
 
-ghost use Rattle.std.specs.Prelude.{◌≡◌, ◌<◌, Bool, IfSome, MatchOption, Some, SomeIff, true};
-ghost use Rattle.ttx_header.specs.Headers.{is_header, header_fields_of};
+ghost use Rattle.std.specs.Prelude.{◌≡◌, ◌<◌, Bool, IfSome, MatchOption, Some, true};
 ghost use Rattle.ttx_header.specs.Ids.{Id};
 ghost use Rattle.ttx_page.specs.Packets.{packet_of};
 ghost use Rattle.ttx_page.specs.Streams.{heads_page, carries};
 ghost use Rattle.ttx_page.specs.declared.item.Item.{Item as ItemValue};
 ghost use Rattle.ttx_page.specs.declared.item.Item.TheVariants.{Row as TheRow, Links as TheLinks};
-ghost use Rattle.ttx_witness.specs.faults.Comparing.{HoldsHeader, HoldsNoHeader, HoldsRow, HoldsNoRow, HoldsLinks, mine_after};
+ghost use Rattle.ttx_witness.specs.faults.Comparing.{HoldsHeader, HoldsNoHeader, HoldsId, HoldsRow, HoldsNoRow, HoldsLinks, mine_after};
 ghost use Rattle.ttx_witness.specs.faults.Comparing.{HoldsNoLinks, sends, heads_other_subpage, is_number_of};
 ghost use Rattle.ttx_witness.specs.sent.Collected.{IsItem, item_number};
 
 use crate::sent::page_items::item_of;
-use ttx_header::parts::number_at;
-use ttx_header::{Header, PageId};
+use ttx_header::{Control, Header, PageId, read_id};
 use ttx_packet::place::Address;
 use ttx_packet::{Slot, slot_of};
 use ttx_page::{Item, RowNumber};
-
-/// Reads the page header in the 42 bytes of a slot. Most packets are rows, so the packet number is looked at before the header is read.
-pub fn read_header(slot: &[u8; 42]) -> Option<Header>
-    ensures { SomeIff result (is_header slot.now ≡ true) (header_fields_of slot.now) }
-{
-    if number_at(slot, 1) != 0 || number_at(slot, 0) >= 8 {
-        return None;
-    }
-    ttx_header::read_header(slot)
-}
 
 /// The page header in a slot, if there is one.
 pub fn header_in(slot: &[u8; 42]) -> Option<Header>
@@ -35,7 +23,7 @@ pub fn header_in(slot: &[u8; 42]) -> Option<Header>
     ttx_cycle::arrays::is_slot(slot);
     ttx_header::laws::headers_have_fields();
     ttx_header::laws::headers_are_headers();
-    read_header(slot)
+    ttx_header::read_header(slot)
 }
 
 /// The address of the row in a slot, if there is one.
@@ -68,12 +56,23 @@ pub fn links_in(slot: &[u8; 42]) -> Option<Address>
     }
 }
 
+/// The id and the control bits of the page header in a slot, if there is one.
+#[inline(always)]
+pub fn id_in(slot: &[u8; 42]) -> Option<(PageId, Control)>
+    ensures { MatchOption result (HoldsNoHeader (packet_of slot.now)) (λ h. HoldsId h.0 h.1.0 slot.now) }
+{
+    ttx_cycle::arrays::is_slot(slot);
+    ttx_header::laws::headers_have_fields();
+    ttx_header::laws::headers_are_headers();
+    read_id(slot)
+}
+
 /// Whether the slot is a header of the page.
 pub fn heads_page(page: PageId, slot: &[u8; 42]) -> bool
     ensures { result ≡ heads_page page (packet_of slot.now) }
 {
-    match header_in(slot) {
-        Some(header) => page == header.id(),
+    match id_in(slot) {
+        Some((id, _)) => page == id,
         None => false,
     }
 }
@@ -82,11 +81,8 @@ pub fn heads_page(page: PageId, slot: &[u8; 42]) -> bool
 pub fn heads_other_subpage(page: PageId, slot: &[u8; 42]) -> bool
     ensures { result ≡ heads_other_subpage page (packet_of slot.now) }
 {
-    match header_in(slot) {
-        Some(header) => {
-            let id = header.id();
-            page.mag() == id.mag() && page.page() == id.page() && page != id
-        }
+    match id_in(slot) {
+        Some((id, _)) => page.mag() == id.mag() && page.page() == id.page() && page != id,
         None => false,
     }
 }
@@ -95,15 +91,9 @@ pub fn heads_other_subpage(page: PageId, slot: &[u8; 42]) -> bool
 pub fn mine_after(page: PageId, slot: &[u8; 42], mine: bool) -> bool
     ensures { result ≡ mine_after page (packet_of slot.now) mine }
 {
-    match header_in(slot) {
-        Some(header) => {
-            if header.id().mag() == page.mag() {
-                page == header.id()
-            } else {
-                mine
-            }
-        }
-        None => mine,
+    match id_in(slot) {
+        Some((id, _)) if id.mag() == page.mag() => page == id,
+        _ => mine,
     }
 }
 

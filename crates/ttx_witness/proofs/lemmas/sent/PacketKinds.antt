@@ -4,14 +4,15 @@ use Rattle.std.proofs.Common.{subst}
 use Rattle.ttx_packet.specs.Slots.{IsSlot, Kind, IsEmpty, IsUnreadable, IsHeader, IsRow, IsLinks, IsInfo, IsOther, kind_of}
 use Rattle.ttx_header.specs.Ids.{Id}
 use Rattle.ttx_header.specs.Fields.{HeaderFields}
-use Rattle.ttx_header.specs.Headers.{id_of, header_fields_of, is_header}
+use Rattle.ttx_header.specs.declared.control.Control.{Control}
+use Rattle.ttx_header.specs.Headers.{id_of, control_of, header_fields_of, is_header}
 use Rattle.ttx_page.specs.Packets.{Packet, Empty, Unreadable, Header, Row, Links, Info, Other, packet_of, packet_of_kind}
 use Rattle.ttx_page.specs.declared.item.Item.TheVariants.{Row as TheRow, Links as TheLinks}
 use Rattle.ttx_page.specs.Streams.{heads_page, carries}
 use Rattle.ttx_code.specs.Words.{odd_byte}
 use Rattle.ttx_page.specs.Pages.{Page, page_row}
 use Rattle.ttx_page.specs.Steady.{erases_page, RowIsRight}
-use Rattle.ttx_witness.specs.faults.Comparing.{HoldsHeader, HoldsNoHeader, HoldsNoRow, HoldsNoLinks, mine_after, heads_other_subpage}
+use Rattle.ttx_witness.specs.faults.Comparing.{HoldsHeader, HoldsId, HoldsNoHeader, HoldsNoRow, HoldsNoLinks, mine_after, heads_other_subpage}
 use Rattle.ttx_header.specs.Laws.{HeadersHaveFields, HeadersAreHeaders}
 use Rattle.ttx_witness.proofs.lemmas.sent.OwnersAfterSlot.{packet_is, IsNoHeader, no_header}
 
@@ -26,6 +27,14 @@ holds_none slot (IsRow mag number) n e = by_kind HoldsNoHeader slot (IsRow mag n
 holds_none slot (IsLinks mag) n e = by_kind HoldsNoHeader slot (IsLinks mag) e tt
 holds_none slot IsInfo n e = by_kind HoldsNoHeader slot IsInfo e tt
 holds_none slot (IsOther mag number) n e = by_kind HoldsNoHeader slot (IsOther mag number) e tt
+
+-- the same of its id and its control bits
+pub id_told : (slot : List ℕ) → IsSlot slot → HeadersHaveFields → HeadersAreHeaders → (o : Option (Id × Control)) →
+    SomeIff o (is_header slot ≡ true) (id_of slot, record { 0 = control_of slot }) →
+    MatchOption o (HoldsNoHeader (packet_of slot)) (λ h. HoldsId h.0 h.1.0 slot)
+id_told slot is fields headers None none = holds_none slot (kind_of slot) (no_header slot (λ mag e. none (fields slot mag is e).header)) refl
+id_told slot is fields headers (Some h) told =
+    subst (λ x. HoldsId x.0 x.1.0 slot) (sym told.1) (packet_is slot (IsHeader (id_of slot).mag) (headers slot is told.0))
 
 -- a packet that is not a header
 pub no_page : (page : Id) (packet : Packet) → HoldsNoHeader packet → heads_page page packet ≡ false
