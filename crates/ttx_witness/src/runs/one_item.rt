@@ -61,8 +61,11 @@ pub fn search_item(
     ensures { IfOk result (λ s. IsFound (runs period (repeat - 1) sent.now) s.starts.items s.spread) }
 {
     begin(alloc, ring, repeat)?;
+    let Ok(starts) = Starts::with_capacity(alloc, sent.len()) else {
+        return Err(NoMemory);
+    };
     let mut found = SureRuns {
-        starts: Starts::new(alloc),
+        starts,
         spread: None,
     };
     for i in 0..sent.len() {

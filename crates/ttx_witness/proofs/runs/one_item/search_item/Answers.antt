@@ -6,8 +6,8 @@ use Rattle.ttx_witness.proofs.runs.one_item.search_item.Goals as goal
 
 pub loop-i-init : goal.loop-i-init
 loop-i-init c = record {
-  held = search_begins (c.args.repeat - 1) c.begin.new.ring (record { starts = c.new.result; spread = None }) c.in_ok-begin.ensures.held
-      c.new.ensures.items refl;
+  held = search_begins (c.args.repeat - 1) c.begin.new.ring (record { starts = c.in-Ok.starts; spread = None }) c.in_ok-begin.ensures.held
+      c.in-Ok.ensures.items refl;
 }
 
 pub loop-i-preserved : goal.loop-i-preserved
