@@ -1,6 +1,6 @@
 -- Entries as they are written, and what the parts of the reader return, as the definitions see them.
 --
---   written_item, written_of     an item and an entry whose numbers may be out of range
+--   written_item, written_with   an item and an entry whose numbers may be out of range
 --   words_after             the words of what is left of a line
 --   first_number            the number in the first word, and the words after it
 --   followed                an item that more words follow
@@ -20,8 +20,9 @@ written_item Head = TheHead
 written_item (Row n) = TheRow n
 written_item Links = TheLinks
 
-abbrev pub written_of : Written → EntryFields
-written_of e = entry_at (id_at e.mag e.page e.sub) (written_item e.item) e.starts.items
+-- the entry with these starts
+abbrev pub written_with : Written → List ℕ → EntryFields
+written_with w starts = entry_at (id_at w.mag w.page w.sub) (written_item w.item) starts
 
 abbrev pub words_after : Option (List ℕ) → List (List ℕ)
 words_after None = []

@@ -1,16 +1,15 @@
 //! The line of an entry, word by word.
 
-ghost use Rattle.std.specs.Prelude.{◌≡◌, Some, None, option_map, IfOk, MatchOption};
+ghost use Rattle.std.specs.Prelude.{◌≡◌, ◌++◌, Some, None, option_map, if◌then◌else◌, IfOk, MatchOption};
 ghost use Rattle.ttx_header.specs.Ids.{id_at};
 ghost use Rattle.ttx_certificate.specs.CertificateReading.{words_in, row_in, item_in, numbers_in, with_item, entry_in};
-ghost use Rattle.ttx_certificate.specs.WrittenEntries.{written_item, written_of, followed};
+ghost use Rattle.ttx_certificate.specs.WrittenEntries.{written_item, written_with, followed};
 
 use crate::entries::Starts;
 use crate::line_words::cut_word;
 use crate::no_memory::NoMemory;
 use crate::number_words::next_number;
 use crate::written::{Written, WrittenItem};
-use std::alloc::Global;
 use ttx_digits::id;
 
 // The id in the first word, and what follows the space after it.
@@ -65,42 +64,35 @@ fn item(text: &[u8]) -> Option<(WrittenItem, &[u8])>
     }
 }
 
-// The numbers of the words. `None` if one is not a number.
-fn numbers(alloc: Global, text: &[u8]) -> Result<Option<Starts>, NoMemory>
-    ensures { IfOk result (λ s. option_map (λ v. v.items) s ≡ numbers_in (words_in text.now)) }
+/// Appends the numbers of the words. `false` if one is not a number.
+pub(crate) fn push_starts(starts: &mut Starts, text: &[u8]) -> Result<bool, NoMemory>
+    ensures { IfOk result (λ all. (if all then Some starts.new.items else None) ≡ option_map (λ more. starts.old.items ++ more) (numbers_in (words_in text.now))) }
 {
-    let mut numbers = Starts::new(alloc);
     let mut rest = Some(text);
     while let Some(text) = rest {
         let Some((number, more)) = next_number(text) else {
-            return Ok(None);
+            return Ok(false);
         };
-        if numbers.push(number).is_err() {
+        if starts.push(number).is_err() {
             return Err(NoMemory);
         }
         rest = more;
     }
-    Ok(Some(numbers))
+    Ok(true)
 }
 
-/// The page, the item and the starts of a line. `None` if it has another shape.
-pub(crate) fn shape(alloc: Global, line: &[u8]) -> Result<Option<Written>, NoMemory>
-    ensures { IfOk result (λ w. option_map written_of w ≡ entry_in (words_in line.now)) }
+/// The page and the item of a line, and what follows the space after them. `None` if they have another shape, or no word follows.
+pub(crate) fn names(line: &[u8]) -> Option<(Written, &[u8])>
+    ensures { MatchOption result (entry_in (words_in line.now) ≡ None)
+        (λ p. entry_in (words_in line.now) ≡ option_map (λ starts. written_with p.0 starts) (numbers_in (words_in p.1.now))) }
 {
-    let Some(((mag, page, sub), rest)) = page(line) else {
-        return Ok(None);
+    let ((mag, page, sub), rest) = page(line)?;
+    let (item, text) = item(rest)?;
+    let written = Written {
+        mag,
+        page,
+        sub,
+        item,
     };
-    let Some((item, text)) = item(rest) else {
-        return Ok(None);
-    };
-    match numbers(alloc, text)? {
-        Some(starts) => Ok(Some(Written {
-            mag,
-            page,
-            sub,
-            item,
-            starts,
-        })),
-        None => Ok(None),
-    }
+    Some((written, text))
 }

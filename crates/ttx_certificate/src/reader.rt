@@ -8,13 +8,13 @@ ghost use Rattle.ttx_certificate.specs.EntryViews.{entry_of, entries_of};
 ghost use Rattle.ttx_certificate.specs.Certificates.{fields_of};
 ghost use Rattle.ttx_certificate.specs.CertificateReading.{lines_in, words_in, is_id};
 ghost use Rattle.ttx_certificate.specs.CertificateReading as rule;
-ghost use Rattle.ttx_certificate.specs.WrittenEntries.{written_item, written_of};
+ghost use Rattle.ttx_certificate.specs.WrittenEntries.{written_item, written_with};
 ghost use Rattle.ttx_certificate.specs.ReadingAnswers.{outcome, IsUnlessMemory};
 
 use crate::certificate_faults::CertFault;
 use crate::certificates::Certificate;
-use crate::entries::{Entry, are_slots, is_above, rises};
-use crate::entry_lines::shape;
+use crate::entries::{Entry, Starts, are_slots, is_above, rises};
+use crate::entry_lines::{names, push_starts};
 use crate::line_words::{cut_line, cut_word};
 use crate::written::{Written, WrittenItem};
 use std::alloc::Global;
@@ -47,28 +47,33 @@ fn ranged_item(item: WrittenItem) -> Option<Item>
     }
 }
 
-// The entry of line `number`, after the place of the entry before.
-fn entry(written: Written, number: usize, low: Option<u32>) -> Result<Entry, CertFault>
-    ensures { outcome entry_of result ≡ rule.read_entry number low (Some (written_of written)) }
+// The entry of line `line` with these starts, after the place of the entry before.
+fn entry(
+    written: Written,
+    starts: Starts,
+    line: usize,
+    low: Option<u32>,
+) -> Result<Entry, CertFault>
+    ensures { outcome entry_of result ≡ rule.read_entry line low (Some (written_with written starts.items)) }
 {
-    let range = CertFault::Range { line: number };
+    let range = CertFault::Range { line };
     let Some(page) = page_id(written.mag, written.page, written.sub) else {
         return Err(range);
     };
     let Some(item) = ranged_item(written.item) else {
         return Err(range);
     };
-    if !are_slots(written.starts.as_slice()) {
+    if !are_slots(starts.as_slice()) {
         return Err(range);
     }
-    if written.starts.is_empty() || !rises(written.starts.as_slice()) {
-        return Err(CertFault::Order { line: number });
+    if starts.is_empty() || !rises(starts.as_slice()) {
+        return Err(CertFault::Order { line });
     }
-    let entry = Entry::of(page, item, written.starts);
+    let entry = Entry::of(page, item, starts);
     if is_above(low, entry.place()) {
         Ok(entry)
     } else {
-        Err(CertFault::Order { line: number })
+        Err(CertFault::Order { line })
     }
 }
 
@@ -76,9 +81,13 @@ fn entry(written: Written, number: usize, low: Option<u32>) -> Result<Entry, Cer
 fn entry_in(alloc: Global, text: &[u8], line: usize, low: Option<u32>) -> Result<Entry, CertFault>
     ensures { IsUnlessMemory result (outcome entry_of result ≡ rule.read_entry line low (rule.entry_in (words_in text.now))) }
 {
-    match shape(alloc, text) {
-        Ok(Some(written)) => entry(written, line, low),
-        Ok(None) => Err(CertFault::Line { line }),
+    let Some((written, rest)) = names(text) else {
+        return Err(CertFault::Line { line });
+    };
+    let mut starts = Starts::new(alloc);
+    match push_starts(&mut starts, rest) {
+        Ok(true) => entry(written, starts, line, low),
+        Ok(false) => Err(CertFault::Line { line }),
         Err(_) => Err(CertFault::NoMemory),
     }
 }

@@ -5,3 +5,4 @@ mod SaidLinks
 mod WrittenLinks
 mod ReadableLinks
 mod ExactLinks
+mod SentLinks

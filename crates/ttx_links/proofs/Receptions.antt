@@ -14,12 +14,12 @@ use Rattle.ttx_header.specs.Laws.{WordsAreKept}
 use Rattle.ttx_links.specs.Sets.{target_magazine, linked, link_at, set_of, links_of, is_exact}
 use Rattle.ttx_links.specs.Laws.{LinksAreKept}
 
-passes_at : (test : ℕ → Bool) (xs : List ℕ) (k : ℕ) → list_all test xs ≡ true → k < length xs → test (get_or xs k 0) ≡ true
+pub passes_at : (test : ℕ → Bool) (xs : List ℕ) (k : ℕ) → list_all test xs ≡ true → k < length xs → test (get_or xs k 0) ≡ true
 passes_at test [] k h l = absurd (omega arith)
 passes_at test (x ∷ xs) zero h l = (and_parts (test x) (list_all test xs) h).0
 passes_at test (x ∷ xs) (suc k) h l = passes_at test xs k (and_parts (test x) (list_all test xs) h).1 (omega arith)
 
-all_pass : (test : ℕ → Bool) (xs : List ℕ) → ((k : ℕ) → k < length xs → test (get_or xs k 0) ≡ true) → list_all test xs ≡ true
+pub all_pass : (test : ℕ → Bool) (xs : List ℕ) → ((k : ℕ) → k < length xs → test (get_or xs k 0) ≡ true) → list_all test xs ≡ true
 all_pass test [] h = refl
 all_pass test (x ∷ xs) h = both (test x) (list_all test xs) (h 0 (omega arith)) (all_pass test xs (λ k l. h (suc k) (omega arith)))
   where
@@ -27,10 +27,10 @@ all_pass test (x ∷ xs) h = both (test x) (list_all test xs) (h 0 (omega arith)
     both true b e f = f
     both false b e f = e
 
-at_range : (s : List ℕ) (a b k : ℕ) → k < b - a → get_or (slice_range s a b) k 0 ≡ get_or s (a + k) 0
+pub at_range : (s : List ℕ) (a b k : ℕ) → k < b - a → get_or (slice_range s a b) k 0 ≡ get_or s (a + k) 0
 at_range s a b k l = get_or-take (b - a) (drop a s) k 0 l ∙ get_or-drop a s k 0
 
-length_range : (s : List ℕ) (a b : ℕ) → b ≤ length s → a ≤ b → length (slice_range s a b) ≡ b - a
+pub length_range : (s : List ℕ) (a b : ℕ) → b ≤ length s → a ≤ b → length (slice_range s a b) ≡ b - a
 length_range s a b l m = length-take-le (b - a) (drop a s) (omega (arith, length-drop a s))
 
 long : (t : List ℕ) → length t ≡ 42 → length (slice_range t 3 40) ≡ 37

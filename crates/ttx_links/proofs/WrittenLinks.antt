@@ -18,7 +18,7 @@ use Rattle.ttx_links.proofs.SaidLinks.{links_said}
 numbers_are_small : (m : ℕ) (id : Id) → m < 8 → id.page < 256 → IsSubcode id.sub → AreNumbers (link_numbers m id)
 numbers_are_small m id lm lp is = (omega arith, (omega (arith, lp), (omega arith, (omega arith, (omega arith, (omega (arith, is.top, lm), tt))))))
 
-link_is_small : (mag : ℕ) (link : Option Id) → IsLink link → AreNumbers (numbers_for mag link)
+pub link_is_small : (mag : ℕ) (link : Option Id) → IsLink link → AreNumbers (numbers_for mag link)
 link_is_small mag None is = numbers_are_small 0 no_link (omega arith) (omega arith) (record { top = omega arith; gap = refl })
 link_is_small mag (Some id) is = numbers_are_small (bit_xor (mag % 8) (id.mag % 8)) id
     (xor_below_8 (mag % 8) (id.mag % 8) (omega arith) (omega arith)) is.ranges.page is.ranges.sub

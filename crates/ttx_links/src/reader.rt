@@ -1,12 +1,14 @@
 //! Reads packets X/27/0, and single links in other packets.
 
 ghost use Rattle.std.specs.Prelude.{◌≡◌, ◌+◌, ◌≤◌, ◌↔◌, true, IsTrue, Some, SomeIff, slice_range, option_map};
-ghost use Rattle.ttx_packet.specs.Slots.{are_readable};
+ghost use Rattle.ttx_packet.specs.Slots.{are_readable, are_words};
 ghost use Rattle.ttx_links.specs.Sets.{is_exact, link_at, links_fields, links_of, set_of};
 
+use crate::laws;
 use crate::sets::Links;
 use crate::targets::Target;
-use ttx_code::are_words;
+use crate::writer::write_link;
+use ttx_code::{are_words, is_word};
 use ttx_header::parts::{is_readable, number_at};
 
 // The link in the six bytes from byte `at` on, if they are readable.
@@ -75,28 +77,39 @@ pub fn read_links(mag: u8, bytes: &[u8; 42]) -> Option<Links>
     Some(Links::new(six, show24, crc_of(bytes)))
 }
 
-// Whether the six bytes from byte `at` on read as this link.
-fn is_link(mag: u8, bytes: &[u8; 42], at: usize, link: Option<Target>) -> bool
+// Whether the six bytes from byte `at` on are code words that send this link.
+#[inline(always)]
+fn is_link(mag: u8, bytes: &[u8; 42], at: usize, link: &Option<Target>) -> bool
     requires low { 1 ≤ mag }
     requires high { mag ≤ 8 }
     requires inside { at + 6 ≤ 42 }
-    ensures { IsTrue result ↔ (link_at mag bytes.now at ≡ link) }
+    ensures { IsTrue result ↔ ((are_words (slice_range bytes.now at (at + 6)) ≡ true) × (link_at mag bytes.now at ≡ link.now)) }
 {
-    link_at(mag, bytes, at) == link
+    laws::link_leads_to_a_target(link);
+    ttx_header::laws::written_words_are_read();
+    ttx_header::laws::read_numbers_are_numbers();
+    laws::said_link_is_read();
+    laws::read_link_is_said();
+    ttx_code::laws::words_have_numbers();
+    match link {
+        // Only the bytes that are written for it send a link that leads somewhere.
+        Some(_) => bytes[at..at + 6] == write_link(mag, link)[..],
+        None => are_words(&bytes[at..at + 6]) && link_at(mag, bytes, at).is_none(),
+    }
 }
 
-// Whether bytes 3 to 38 read as these six links.
+// Whether bytes 3 to 38 are code words that send these six links.
 fn are_six(mag: u8, bytes: &[u8; 42], six: &[Option<Target>; 6]) -> bool
     requires low { 1 ≤ mag }
     requires high { mag ≤ 8 }
-    ensures { IsTrue result ↔ ((set_of mag bytes.now).six ≡ six.now) }
+    ensures { IsTrue result ↔ ((are_words (slice_range bytes.now 3 39) ≡ true) × ((set_of mag bytes.now).six ≡ six.now)) }
 {
-    is_link(mag, bytes, 3, six[0])
-        & is_link(mag, bytes, 9, six[1])
-        & is_link(mag, bytes, 15, six[2])
-        & is_link(mag, bytes, 21, six[3])
-        & is_link(mag, bytes, 27, six[4])
-        & is_link(mag, bytes, 33, six[5])
+    is_link(mag, bytes, 3, &six[0])
+        & is_link(mag, bytes, 9, &six[1])
+        & is_link(mag, bytes, 15, &six[2])
+        & is_link(mag, bytes, 21, &six[3])
+        & is_link(mag, bytes, 27, &six[4])
+        & is_link(mag, bytes, 33, &six[5])
 }
 
 /// Whether bytes 3 to 39 of a packet X/27/0 of magazine `mag` are code words that send these links and their `show24`. The first
@@ -108,5 +121,5 @@ pub fn links_are_exact(mag: u8, bytes: &[u8; 42], links: &Links) -> bool
 {
     ttx_code::laws::words_have_numbers();
     let same_row = (number_at(bytes, 39) / 8 == 1) == links.show24();
-    are_words(&bytes[3..40]) & are_six(mag, bytes, links.six()) & same_row
+    is_word(bytes[39]) & same_row & are_six(mag, bytes, links.six())
 }

@@ -29,6 +29,7 @@ fn link_words(m: u8, page: u8, sub: u16) -> [u8; 6]
 }
 
 /// The six bytes of a link in a packet of magazine `mag`. No link is sent as page FF, subcode 3F7F, with M1 to M3 zero.
+#[inline(always)]
 pub fn write_link(mag: u8, link: &Option<Target>) -> [u8; 6]
     requires low { 1 ≤ mag }
     requires high { mag ≤ 8 }

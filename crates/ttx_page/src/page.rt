@@ -68,6 +68,28 @@ impl Page {
         }
     }
 
+    /// A page with these fields, which keep the rules of the type.
+    pub fn of_fields(
+        id: PageId,
+        control: Control,
+        head: &[u8; 24],
+        rows: &[[u8; 40]; 24],
+        links: &Links,
+    ) -> Page
+        requires { IsPage (page_at id control.0 head.now rows.now links.now.set links.now.crc) }
+        ensures { page_of result ≡ page_at id control.0 head.now rows.now links.now.set links.now.crc }
+    {
+        let _six = links.six();
+        ttx_links::laws::links_lead_to_targets(links);
+        Page {
+            id,
+            control,
+            head: *head,
+            rows: *rows,
+            links: *links,
+        }
+    }
+
     /// The id of the page.
     pub fn id(&self) -> PageId
         ensures { result ≡ (page_of self.now).id }

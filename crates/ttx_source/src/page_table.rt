@@ -85,7 +85,7 @@ impl Frame {
         requires { IsPage (page_in self.now rows.now) }
         ensures { page_of result ≡ page_in self.now rows.now }
     {
-        Page::new(self.id, self.control, self.head, *rows, self.links).unwrap()
+        Page::of_fields(self.id, self.control, &self.head, rows, &self.links)
     }
 }
 
