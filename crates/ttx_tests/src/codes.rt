@@ -1,6 +1,6 @@
 //! Bytes of the standard's tables, and a sent text.
 
-use ttx_code::{all_odd, ham, is_word, odd, odd_of, unham};
+use ttx_code::{all_odd, are_readable, are_words, ham, is_word, number_of, odd, odd_of, unham};
 
 // The code word of each number (EN 300 706, 8.2).
 const WORDS: [u8; 16] = [
@@ -43,6 +43,10 @@ fn one_wrong_bit_is_corrected(rt: HostRuntime) {
     assert!(rt; readable() == 144);
     assert!(rt; unham(0x14) == Some(0) && !is_word(0x14));
     assert!(rt; unham(0x00) == Some(1) && unham(0x16).is_none());
+    // 0x14 is the word of 0 with one wrong bit, 0x16 is unreadable
+    assert!(rt; number_of(0x14) == 0 && number_of(0xea) == 15 && number_of(0x16) == 0);
+    assert!(rt; are_readable(&[0x15, 0x14]) && !are_readable(&[0x15, 0x16]));
+    assert!(rt; are_words(&WORDS) && !are_words(&[0x15, 0x14]));
 }
 
 #[test]

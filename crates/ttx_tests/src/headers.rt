@@ -1,7 +1,7 @@
 //! Page headers by their bytes.
 
 use bitflags::Flags;
-use ttx_header::{Control, Header, PageId, read_header, write_header};
+use ttx_header::{Control, Header, PageId, read_header, read_id, write_header};
 
 // Control bits, magazine, page number and subcode, and the bytes that the header begins with.
 #[rattlefmt::skip]
@@ -34,5 +34,6 @@ fn headers_by_their_bytes(rt: HostRuntime) {
         // one wrong bit is corrected
         bytes[5] = bytes[5] ^ 1;
         assert!(rt; read_header(&bytes) == Some(header), "{bits}");
+        assert!(rt; read_id(&bytes) == Some((header.id(), control)), "{bits}");
     }
 }

@@ -1,6 +1,6 @@
 //! A packet X/27/0 by its bytes.
 
-use ttx_links::{Links, Target, read_links};
+use ttx_links::{Links, Target, links_are_exact, read_links};
 
 // The link 205/3F7F and five times none, in magazine 1.
 const SENT: [u8; 42] = [
@@ -41,4 +41,18 @@ fn links_of_a_page(rt: HostRuntime) {
         );
     }
     assert!(rt; read_links(1, &sent(39, 0x16)).is_none());
+}
+
+#[test]
+fn links_byte_for_byte(rt: HostRuntime) {
+    for (at, byte, show24) in &READ {
+        assert!(rt;
+            links_are_exact(1, &sent(*at, *byte), &one_link(*show24)),
+            "byte {at}"
+        );
+    }
+    // one wrong bit, another link, and the other answer about row 24
+    assert!(rt; !links_are_exact(1, &sent(3, 0x72), &one_link(false)));
+    assert!(rt; !links_are_exact(1, &sent(3, 0x64), &one_link(false)));
+    assert!(rt; !links_are_exact(1, &SENT, &one_link(true)));
 }
