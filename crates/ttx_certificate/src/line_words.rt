@@ -14,7 +14,6 @@ fn line_end(text: &[u8]) -> Option<usize>
 }
 
 /// The first line, without its 0A, and what follows it. `None` if no line ends.
-#[inline(always)]
 pub(crate) fn cut_line(text: &[u8]) -> Option<(&[u8], &[u8])>
     ensures parts { MatchOption result (lines_in text.now ≡ text.now ∷ []) (λ p. lines_in text.now ≡ p.0.now ∷ lines_in p.1.now) }
     ensures shorter { IfSome result (λ p. length p.1.now < length text.now) }
