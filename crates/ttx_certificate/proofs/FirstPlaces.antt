@@ -13,8 +13,7 @@ module _ (p : ℕ → Bool) (xs : List ℕ) where
       IsFirst (Passes p xs) i (i + suc n) r
   here_first i n None later rest here is = absurd (let e = is.1 in cc)
   here_first i n (Some k) later rest here is =
-      let same : i ≡ k = ap (head_or 0) is in
-      (
+      let same : i ≡ k = ap (head_or 0) is in (
         record { low = omega arith; high = omega arith; before = λ m low high. absurd (omega arith) },
         subst (λ k. p (slice_index xs k) ≡ true) same here,
       )
@@ -32,8 +31,7 @@ module _ (p : ℕ → Bool) (xs : List ℕ) where
   here_none i n None other more = λ k low high passes. more k (not_here i k other passes low) (omega arith) passes
   here_none i n (Some k) other more =
       let low = more.0.low in
-      let high = more.0.high in
-      (
+      let high = more.0.high in (
         record {
           low = omega arith;
           high = omega arith;
