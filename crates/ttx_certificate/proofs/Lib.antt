@@ -8,3 +8,4 @@ mod ItemWords
 mod ReadEntries
 mod AcceptedTexts
 mod WrittenTexts
+mod FirstPlaces

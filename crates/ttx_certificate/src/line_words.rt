@@ -4,17 +4,16 @@ ghost use Rattle.std.specs.Prelude.{◌≡◌, ◌==◌, ◌<◌, [], ◌∷◌,
 ghost use Rattle.std.specs.List.{position};
 ghost use Rattle.ttx_certificate.specs.CertificateReading.{lines_in, words_in};
 
-use memchr::memchr;
+use memchr::memchr_iter;
 
-// The place of the first end of a line.
+// The place of the first end of a line. It is near: an iterator looks there first.
 fn line_end(text: &[u8]) -> Option<usize>
     ensures { result ≡ position (λ b. b == 10) text.now }
 {
-    memchr(b'\n', text)
+    memchr_iter(b'\n', text).next()
 }
 
 /// The first line, without its 0A, and what follows it. `None` if no line ends.
-#[inline(always)]
 pub(crate) fn cut_line(text: &[u8]) -> Option<(&[u8], &[u8])>
     ensures parts { MatchOption result (lines_in text.now ≡ text.now ∷ []) (λ p. lines_in text.now ≡ p.0.now ∷ lines_in p.1.now) }
     ensures shorter { IfSome result (λ p. length p.1.now < length text.now) }

@@ -1,17 +1,42 @@
 -- The tables of code words and numbers hold what the definitions say. Computed over all their entries.
 use Rattle.std.proofs.Common.{◌≡◌, ℕ, ◌<◌, ◌≤◌, Bool, true, refl, leb, eqb, get_or, arith, sym, ◌∙◌, ap, ◌&&◌, ltb, Option, Some, None, ◌||◌, not}
-use Rattle.std.proofs.Common.{false, inl, inr, subst, bit_or, ◌%◌, is_some}
+use Rattle.std.proofs.Common.{false, inl, inr, subst, bit_or, ◌/◌, ◌%◌, is_some, List, [], ◌∷◌}
 use Rattle.std.proofs.lemmas.Bool.{cases_lt, agree_below, agree_below_at, eqb-true, eq-eqb, leb-true, le-leb, ltb-true, and_parts}
 use Rattle.std.proofs.lemmas.Nat.{xor_comm}
 use Rattle.std.specs.Int.Bits.{xor_self}
 use Rattle.ttx_code.proofs.Choices.{implied}
 use Rattle.ttx_code.specs.Words.{ones, distance, hamming_word, Reads, reading, number_of, is_word}
 use Rattle.ttx_code.specs.Laws.{WordsHaveNumbers, WordsAreWords, ReadingsAreNumbers, WordsAreReadUnderOneWrongBit, EachByteIsNearItself}
-use Rattle.ttx_code.specs.declared.hamming.TheConstants.{WORDS, NUMBERS, ARE_WORDS}
+use Rattle.ttx_code.specs.declared.hamming.TheConstants.{WORDS, PAIRS, NUMBERS, ARE_WORDS}
 
 pub word_at : (n : ℕ) → n < 16 → get_or WORDS n 0 ≡ hamming_word n
 unfolding hamming_word
 word_at n l = eqb-true _ _ (agree_below_at (λ n. eqb (get_or WORDS n 0) (hamming_word n)) (λ _. true) 16 n refl l)
+
+abbrev is_pair : List ℕ → List ℕ → Bool
+is_pair [] ys = false
+is_pair (x ∷ []) ys = false
+is_pair (x0 ∷ x1 ∷ []) [] = false
+is_pair (x0 ∷ x1 ∷ []) (y0 ∷ []) = false
+is_pair (x0 ∷ x1 ∷ []) (y0 ∷ y1 ∷ []) = eqb x0 y0 && eqb x1 y1
+is_pair (x0 ∷ x1 ∷ []) (y0 ∷ y1 ∷ y2 ∷ ys) = false
+is_pair (x0 ∷ x1 ∷ x2 ∷ xs) ys = false
+
+from_is_pair : (xs : List ℕ) (y0 y1 : ℕ) → is_pair xs (y0 ∷ y1 ∷ []) ≡ true → xs ≡ y0 ∷ y1 ∷ []
+from_is_pair [] y0 y1 e = cc
+from_is_pair (x ∷ []) y0 y1 e = cc
+from_is_pair (x0 ∷ x1 ∷ []) y0 y1 e =
+    let parts = and_parts (eqb x0 y0) (eqb x1 y1) e in
+    λ i. eqb-true x0 y0 parts.0 i ∷ eqb-true x1 y1 parts.1 i ∷ []
+from_is_pair (x0 ∷ x1 ∷ x2 ∷ xs) y0 y1 e = cc
+
+pairs_table : agree_below (λ b. is_pair (get_or PAIRS b []) (hamming_word (b % 16) ∷ hamming_word (b / 16) ∷ [])) (λ _. true) 256 ≡ true
+unfolding hamming_word
+pairs_table = refl
+
+pub pair_at : (b : ℕ) → b < 256 → get_or PAIRS b [] ≡ hamming_word (b % 16) ∷ hamming_word (b / 16) ∷ []
+pair_at b l = from_is_pair _ _ _
+    (agree_below_at (λ b. is_pair (get_or PAIRS b []) (hamming_word (b % 16) ∷ hamming_word (b / 16) ∷ [])) (λ _. true) 256 b pairs_table l)
 
 -- each byte is at most one bit from the code word of exactly the number that the table gives for it
 pub near : ℕ → ℕ → Bool

@@ -7,5 +7,5 @@ pub mod laws;
 mod parity;
 mod plain;
 
-pub use hamming::{are_readable, are_words, ham, is_word, number_of, unham};
+pub use hamming::{are_readable, are_words, ham, ham_pair, is_word, number_of, unham};
 pub use parity::{all_odd, odd, odd_of, strip};

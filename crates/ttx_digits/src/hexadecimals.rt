@@ -4,7 +4,6 @@ ghost use Rattle.std.specs.Prelude.{◌≡◌, ◌≤◌, ◌<◌, ◌+◌, ◌/
 ghost use Rattle.ttx_digits.specs.Digits as rule;
 ghost use Rattle.ttx_digits.specs.Digits.{hex_digit, hex_byte};
 
-use crate::decimals::decimal_in;
 use std::alloc::AllocError;
 
 /// The hexadecimal digit of a number below 16, in capitals.
@@ -35,18 +34,16 @@ pub fn push_subcode(text: &mut String, sub: u16) -> Result<(), AllocError>
     push_byte(text, (sub % 256) as u8)
 }
 
-// The value of a hexadecimal digit in capitals. Most digits are decimal.
-#[tactic(auto, unfolding(crate::specs::Digits::hex_in, crate::specs::Digits::decimal_in))]
+// The value of a hexadecimal digit in capitals.
+#[tactic(auto, unfolding(crate::specs::Digits::hex_in))]
 fn hex_in(byte: u8) -> Option<u8>
     ensures value { result ≡ rule.hex_in byte }
     ensures small { IfSome result (λ n. n < 16) }
 {
-    match decimal_in(byte) {
-        Some(digit) => Some(digit),
-        None => match byte {
-            b'A'..=b'F' => Some(byte - b'A' + 10),
-            _ => None,
-        },
+    match byte {
+        b'0'..=b'9' => Some(byte - b'0'),
+        b'A'..=b'F' => Some(byte - b'A' + 10),
+        _ => None,
     }
 }
 

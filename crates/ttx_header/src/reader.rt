@@ -32,9 +32,9 @@ pub fn read_id(bytes: &[u8; 42]) -> Option<(PageId, Control)>
     ensures value { SomeIff result (is_header bytes.now ≡ true) (id_of bytes.now, record { 0 = control_of bytes.now }) }
     ensures control { IfSome result (λ heading. IsControl heading.1.0) }
 {
-    // Most packets are rows, so the packet number is looked at first.
+    // Most packets are rows, so the packet number is looked at first, and its upper bits before the lowest one.
     let low = number_at(bytes, 0);
-    if low / 8 + 2 * number_at(bytes, 1) != 0 || !is_readable(&bytes[0..10]) {
+    if number_at(bytes, 1) != 0 || low >= 8 || !is_readable(&bytes[0..10]) {
         return None;
     }
     let [s1, s2, s3, s4] = [

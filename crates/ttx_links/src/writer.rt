@@ -8,24 +8,21 @@ ghost use Rattle.ttx_links.specs.Sets.{link_numbers, link_bytes, links_bytes, co
 
 use crate::sets::Links;
 use crate::targets::Target;
-use ttx_code::ham;
+use ttx_code::{ham, ham_pair};
 use ttx_header::parts::put;
 use ttx_packet::address;
 
 // The code words of a link; `m` is M1 + 2 M2 + 4 M3.
+#[inline(always)]
 fn link_words(m: u8, page: u8, sub: u16) -> [u8; 6]
     requires m { m < 8 }
     requires sub { IsSubcode sub }
     ensures { result ≡ map hamming_word (link_numbers m (id_at 8 page sub)) }
 {
-    [
-        ham(page % 16),
-        ham(page / 16),
-        ham((sub % 16) as u8),
-        ham((sub / 16 % 8) as u8 + 8 * (m % 2)),
-        ham((sub / 256 % 16) as u8),
-        ham((sub / 4096) as u8 + 4 * (m / 2)),
-    ]
+    let [units, tens] = ham_pair(page);
+    let [s1, s2] = ham_pair((sub % 128) as u8 + 128 * (m % 2));
+    let [s3, s4] = ham_pair((sub / 256) as u8 + 64 * (m / 2));
+    [units, tens, s1, s2, s3, s4]
 }
 
 /// The six bytes of a link in a packet of magazine `mag`. No link is sent as page FF, subcode 3F7F, with M1 to M3 zero.
