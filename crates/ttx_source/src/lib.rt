@@ -8,6 +8,7 @@ pub mod info_table;
 pub mod key_faults;
 pub mod keys;
 pub mod links;
+pub mod page_entries;
 pub mod page_table;
 pub mod promises;
 pub mod reader;
