@@ -1,5 +1,5 @@
 -- The slots that a slot reader returns are those of the packet file, and its fault is the fault of the whole file.
-use Rattle.std.proofs.Common.{◌≡◌, ℕ, zero, suc, ◌+◌, ◌<◌, List, [], ◌∷◌, ◌++◌, length, All, Option, Some, None, IfSome, Err, refl, sym, ap, ◌∙◌}
+use Rattle.std.proofs.Common.{◌≡◌, ℕ, zero, suc, ◌<◌, List, [], ◌∷◌, ◌++◌, length, All, Option, Some, None, IfSome, Err, refl, sym, ap, ◌∙◌}
 use Rattle.std.proofs.Common.{subst, arith, length-append, append-nil}
 use Rattle.std.specs.Io.KnownBytes.{Consumes, IsAtEnd}
 use Rattle.std.proofs.KnownBytes.{Consumes-nil, Consumes-trans, Consumes-whole}
@@ -7,7 +7,7 @@ use Rattle.std.proofs.lemmas.Grind.{flat_map-append}
 use Rattle.std.proofs.lemmas.List.Elements.{All-nil}
 use Rattle.ttx_packet.specs.Slots.{IsSlot}
 use Rattle.ttx_cycle.specs.Files.{IsCycle, file_of}
-use Rattle.ttx_cycle.specs.SlotLaws.{IsGiven, NoneIsGiven, OneMoreIsGiven, AllAreGiven, FaultIsTheFiles}
+use Rattle.ttx_cycle.specs.SlotLaws.{NoneIsGiven, OneMoreIsGiven, AllAreGiven, FaultIsTheFiles}
 use Rattle.ttx_cycle.specs.Reading.{Judged}
 use Rattle.ttx_cycle.specs.declared.faults.CycleFault.TheVariants.{Read, Truncated, Empty, TooLong, NoMemory}
 

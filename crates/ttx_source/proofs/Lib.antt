@@ -3,6 +3,7 @@ mod Plain
 mod RowTable
 mod RowValues
 mod RowKeys
+mod KeyPlaces
 mod ShortNumbers
 mod LinkArray
 mod PageList

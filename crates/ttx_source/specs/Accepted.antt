@@ -2,8 +2,10 @@
 --
 --   takes_of                what a key takes
 --   all_keys, key_table     all keys; their names, and what they take
+--   key_names, is_key_name  the names alone
 --   taken_in, accepted_at   what the key of a name takes
-use Rattle.std.specs.Prelude.{List, [], ◌∷◌, codes, ℕ, map, if◌then◌else◌}
+use Rattle.std.specs.Prelude.{List, [], ◌∷◌, codes, ℕ, map, Bool, if◌then◌else◌}
+use Rattle.std.specs.List.{list_any}
 use Rattle.std.specs.Str.{bytes_eq}
 use Rattle.ttx_source.specs.KeyFaults.{key_name}
 use Rattle.ttx_source.specs.declared.keys.Key.{Key}
@@ -41,11 +43,17 @@ takes_of key.Stays = codes "seconds from 0.02 to 20000, an integer or a float"
 
 unfoldable pub all_keys : List Key
 all_keys =
-    key.Lines ∷ key.Serial ∷ key.Info ∷ key.Designation ∷ key.Initial ∷ key.Network ∷ key.Halves ∷ key.Mjd ∷ key.Utc ∷ key.Text ∷ key.Page ∷ key.Number ∷ key.Sub ∷ key.Often
-    ∷ key.Option ∷ key.Newsflash ∷ key.Subtitle ∷ key.Suppress ∷ key.Update ∷ key.Interrupted ∷ key.Inhibit ∷ key.Head ∷ key.Rows ∷ key.Links ∷ key.Row24 ∷ key.Crc ∷ key.Within ∷ key.Stays ∷ []
+    key.Number ∷ key.Sub ∷ key.Head ∷ key.Rows ∷ key.Often ∷ key.Option ∷ key.Newsflash ∷ key.Subtitle ∷ key.Suppress ∷ key.Update ∷ key.Interrupted ∷ key.Inhibit ∷ key.Links ∷ key.Row24 ∷ key.Crc ∷ key.Within ∷ key.Stays ∷ key.Lines ∷ key.Serial ∷ key.Info ∷ key.Designation ∷ key.Initial ∷ key.Network ∷ key.Halves ∷ key.Mjd ∷ key.Utc ∷ key.Text ∷ key.Page ∷ []
 
 unfoldable pub key_table : List (List ℕ × List ℕ)
 key_table = map (λ k. (key_name k, takes_of k)) all_keys
+
+-- the names of all keys
+unfoldable pub key_names : List (List ℕ)
+key_names = map key_name all_keys
+
+abbrev pub is_key_name : List ℕ → Bool
+is_key_name name = list_any (λ key. bytes_eq key name) key_names
 
 abbrev pub taken_in : List (List ℕ × List ℕ) → List ℕ → List ℕ
 taken_in [] name = codes "no value"

@@ -1,5 +1,6 @@
 pub mod Accepted
 pub mod Documents
+pub mod Entries
 pub mod Faults
 pub mod Frames
 pub mod KeyFaults

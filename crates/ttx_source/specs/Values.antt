@@ -55,6 +55,10 @@ value_or key kind default (Some value) = of_kind key kind value
 abbrev pub with_default : {A : Type 0} → List ℕ → (Data → Option A) → A → Members → Result A Fault
 with_default key kind default table = value_or key kind default (get_member key table)
 
+-- the value that may be at a required key
+abbrev pub required_in : {A : Type 0} → List ℕ → (Data → Option A) → Option Data → Result A Fault
+required_in key kind value = or_fault (missing key) value >>= of_kind key kind
+
 -- an integer from low to high
 abbrev pub is_within : ℕ → ℕ → ℤ → Bool
 is_within low high (pos n) = nat_le low n && nat_le n high

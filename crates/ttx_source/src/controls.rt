@@ -4,11 +4,13 @@ ghost use Rattle.std.specs.Prelude.{◌≡◌, ◌≤◌, ◌%◌, codes, false,
 ghost use Rattle.ttx_header.specs.Control.{IsControl, c4, c11};
 ghost use Rattle.toml.specs.View.{table_view};
 ghost use Rattle.ttx_source.specs.Keys as rule;
+ghost use Rattle.ttx_source.specs.Entries.{AreFound};
 ghost use Rattle.ttx_source.specs.KeyFaults.{key_outcome};
 
 use crate::key_faults::KeyFault;
 use crate::keys::Key;
-use crate::values::{flag, integer_or, within};
+use crate::page_entries::PageEntries;
+use crate::values::{integer_or, within};
 use toml::Table;
 use ttx_header::Control;
 
@@ -18,6 +20,15 @@ pub fn option(page: &Table) -> Result<u32, KeyFault>
     ensures most { IfOk result (λ n. n ≤ 7) }
 {
     within(integer_or(page, Key::Option, 0)?, Key::Option, 0, 7)
+}
+
+// The national option of a page, 0 to 7.
+fn option_in(page: &PageEntries) -> Result<u32, KeyFault>
+    requires { AreFound page.now }
+    ensures value { key_outcome (λ n. n) result ≡ rule.option (table_view page.now.table.now) }
+    ensures most { IfOk result (λ n. n ≤ 7) }
+{
+    within(page.integer_or(Key::Option, 0)?, Key::Option, 0, 7)
 }
 
 // The value of a control bit if it is set, otherwise 0.
@@ -41,14 +52,15 @@ fn national(option: u32) -> u16
 
 // The control bits C5 to C7 of a page.
 #[tactic(auto, unfolding(crate::specs::Keys::lower_flags_of))]
-fn lower_flags(page: &Table) -> Result<u16, KeyFault>
-    ensures value { key_outcome (λ n. n) result ≡ rule.lower_flags_of (table_view page.now) }
+fn lower_flags(page: &PageEntries) -> Result<u16, KeyFault>
+    requires { AreFound page.now }
+    ensures value { key_outcome (λ n. n) result ≡ rule.lower_flags_of (table_view page.now.table.now) }
     ensures place { IfOk result (λ n. n % 2 ≡ 0) }
     ensures most { IfOk result (λ n. n ≤ 14) }
 {
-    let newsflash = flag(page, Key::Newsflash)?;
-    let subtitle = flag(page, Key::Subtitle)?;
-    let suppress = flag(page, Key::Suppress)?;
+    let newsflash = page.flag(Key::Newsflash)?;
+    let subtitle = page.flag(Key::Subtitle)?;
+    let suppress = page.flag(Key::Suppress)?;
     Ok(
         bit_at(Control::C5, newsflash)
             + bit_at(Control::C6, subtitle)
@@ -58,14 +70,15 @@ fn lower_flags(page: &Table) -> Result<u16, KeyFault>
 
 // The control bits C8 to C10 of a page.
 #[tactic(auto, unfolding(crate::specs::Keys::upper_flags_of))]
-fn upper_flags(page: &Table) -> Result<u16, KeyFault>
-    ensures value { key_outcome (λ n. n) result ≡ rule.upper_flags_of (table_view page.now) }
+fn upper_flags(page: &PageEntries) -> Result<u16, KeyFault>
+    requires { AreFound page.now }
+    ensures value { key_outcome (λ n. n) result ≡ rule.upper_flags_of (table_view page.now.table.now) }
     ensures place { IfOk result (λ n. n % 16 ≡ 0) }
     ensures most { IfOk result (λ n. n ≤ 112) }
 {
-    let update = flag(page, Key::Update)?;
-    let interrupted = flag(page, Key::Interrupted)?;
-    let inhibit = flag(page, Key::Inhibit)?;
+    let update = page.flag(Key::Update)?;
+    let interrupted = page.flag(Key::Interrupted)?;
+    let inhibit = page.flag(Key::Inhibit)?;
     Ok(
         bit_at(Control::C8, update)
             + bit_at(Control::C9, interrupted)
@@ -75,11 +88,12 @@ fn upper_flags(page: &Table) -> Result<u16, KeyFault>
 
 /// The control bits of a page. C11 is `serial`, as the service has it; C4 is clear.
 #[tactic(auto, unfolding(crate::specs::Keys::control_of_table))]
-pub fn control(page: &Table, serial: bool) -> Result<Control, KeyFault>
-    ensures value { key_outcome (λ c. c.0) result ≡ rule.control_of_table serial (table_view page.now) }
+pub(crate) fn control(page: &PageEntries, serial: bool) -> Result<Control, KeyFault>
+    requires { AreFound page.now }
+    ensures value { key_outcome (λ c. c.0) result ≡ rule.control_of_table serial (table_view page.now.table.now) }
     ensures ranges { IfOk result (λ c. IsControl c.0 × (c4 c.0 ≡ false) × (c11 c.0 ≡ serial)) }
 {
-    let option = option(page)?;
+    let option = option_in(page)?;
     let flags = lower_flags(page)? + upper_flags(page)?;
     Ok(Control(flags + bit_at(Control::C11, serial) + national(option)))
 }

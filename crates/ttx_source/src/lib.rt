@@ -1,4 +1,8 @@
 //! Service definitions: the settings and pages of a service, read from TOML.
+//!
+//! The table of a page is walked once, and the value at each key is kept by the key (`PageEntries`). That each place has the value at its
+//! key is a `requires` of the crate's own readers, and no ghost field of the type: such a field has to be a proposition, and nothing
+//! proves that an equation between TOML values is one.
 #![tactic(auto)]
 
 pub mod controls;
@@ -8,6 +12,7 @@ pub mod info_table;
 pub mod key_faults;
 pub mod keys;
 pub mod links;
+mod page_entries;
 pub mod page_table;
 pub mod promises;
 pub mod reader;

@@ -4,12 +4,14 @@ ghost use Rattle.std.specs.Prelude.{◌≡◌, ◌≤◌, length, codes, Ok};
 ghost use Rattle.toml.specs.Data.{no_items};
 ghost use Rattle.toml.specs.View.{table_view, items_view, view};
 ghost use Rattle.ttx_source.specs.Keys as rule;
+ghost use Rattle.ttx_source.specs.Entries.{AreFound};
 ghost use Rattle.ttx_source.specs.KeyFaults.{key_outcome};
 
 use crate::key_faults::KeyFault;
 use crate::keys::Key;
+use crate::page_entries::PageEntries;
 use crate::texts::{byte_pair, link};
-use crate::values::{array_of, flag, member, text_of, text_or};
+use crate::values::{array_of, text_of, text_or};
 use toml::{Table, Value};
 use ttx_links::{Links, Target};
 
@@ -50,10 +52,11 @@ fn no_links() -> [Option<Target>; 6]
 }
 
 // The six links of a page.
-fn six_links(page: &Table) -> Result<[Option<Target>; 6], KeyFault>
-    ensures { key_outcome (λ l. l) result ≡ rule.six_links (table_view page.now) }
+fn six_links(page: &PageEntries) -> Result<[Option<Target>; 6], KeyFault>
+    requires { AreFound page.now }
+    ensures { key_outcome (λ l. l) result ≡ rule.six_links (table_view page.now.table.now) }
 {
-    let Some(value) = member(page, Key::Links) else {
+    let Some(value) = page.member(Key::Links) else {
         return Ok(no_links());
     };
     let values = array_of(value, Key::Links)?.as_slice();
@@ -70,16 +73,25 @@ pub fn crc(page: &Table) -> Result<[u8; 2], KeyFault>
     byte_pair(text_or(page, Key::Crc, "0000")?, Key::Crc)
 }
 
+// The two bytes of the page CRC of a page.
+fn crc_in(page: &PageEntries) -> Result<[u8; 2], KeyFault>
+    requires { AreFound page.now }
+    ensures { key_outcome (λ b. b) result ≡ rule.crc (table_view page.now.table.now) }
+{
+    byte_pair(page.text_or(Key::Crc, "0000")?, Key::Crc)
+}
+
 /// The links of a page, whether row 24 is shown, and the two bytes of the page CRC.
 #[tactic(auto, unfolding(crate::specs::Keys::links_of_table))]
-pub fn links(page: &Table) -> Result<Links, KeyFault>
-    ensures { key_outcome (λ l. l) result ≡ rule.links_of_table (table_view page.now) }
+pub(crate) fn links(page: &PageEntries) -> Result<Links, KeyFault>
+    requires { AreFound page.now }
+    ensures { key_outcome (λ l. l) result ≡ rule.links_of_table (table_view page.now.table.now) }
 {
     let six = match six_links(page) {
         Ok(six) => six,
         Err(fault) => return Err(fault),
     };
-    let show24 = flag(page, Key::Row24)?;
-    let crc = crc(page)?;
+    let show24 = page.flag(Key::Row24)?;
+    let crc = crc_in(page)?;
     Ok(Links::new(six, show24, crc))
 }

@@ -6,12 +6,14 @@ ghost use Rattle.toml.specs.View.{table_view, view};
 ghost use Rattle.ttx_page.specs.Pages.{IsRow};
 ghost use Rattle.ttx_source.specs.Keys as rule;
 ghost use Rattle.ttx_source.specs.Keys.{AreRows};
+ghost use Rattle.ttx_source.specs.Entries.{AreFound};
 ghost use Rattle.ttx_source.specs.KeyFaults.{key_outcome};
 
 use crate::key_faults::KeyFault;
 use crate::keys::Key;
+use crate::page_entries::PageEntries;
 use crate::texts::{characters, write_characters};
-use crate::values::{member, table_of, text_of};
+use crate::values::{table_of, text_of};
 use toml::{Table, Value};
 use ttx_digits::{decimal_in, two_decimals};
 
@@ -107,11 +109,12 @@ fn write_table(table: &Table, rows: &mut [[u8; 40]; 24]) -> Result<(), KeyFault>
 }
 
 /// Writes rows 1 to 24 of a page; index 0 is row 1.
-pub fn write_rows(page: &Table, rows: &mut [[u8; 40]; 24]) -> Result<(), KeyFault>
-    ensures value { key_outcome (λ _. rows.new) result ≡ rule.rows (table_view page.now) }
+pub(crate) fn write_rows(page: &PageEntries, rows: &mut [[u8; 40]; 24]) -> Result<(), KeyFault>
+    requires { AreFound page.now }
+    ensures value { key_outcome (λ _. rows.new) result ≡ rule.rows (table_view page.now.table.now) }
     ensures rows { IfOk result (λ _. AreRows rows.new) }
 {
-    match member(page, Key::Rows) {
+    match page.member(Key::Rows) {
         None => {
             *rows = blank_rows();
             Ok(())

@@ -4,7 +4,7 @@ ghost use Rattle.std.specs.Prelude.{◌≡◌, ◌≤◌, false, option_map, IfO
 ghost use Rattle.toml.specs.Data.{as_integer, as_bool, as_str, as_array, as_table, get_member};
 ghost use Rattle.toml.specs.View.{table_view, array_view, view};
 ghost use Rattle.ttx_source.specs.Values as rule;
-ghost use Rattle.ttx_source.specs.Values.{or_fault, missing, of_kind, with_default, integer_at, integer_at_or, integer_within};
+ghost use Rattle.ttx_source.specs.Values.{or_fault, missing, of_kind, required_in, value_or, with_default, integer_at, integer_at_or, integer_within};
 ghost use Rattle.ttx_source.specs.KeyFaults.{key_outcome, key_name};
 
 use crate::key_faults::KeyFault;
@@ -16,6 +16,16 @@ pub fn member<'a>(table: &'a Table, key: Key) -> Option<&'a Value>
     ensures { option_map (λ x. view x.now) result ≡ get_member (key_name key) (table_view table.now) }
 {
     table.get(key.name())
+}
+
+/// The text in a value, which must be there.
+pub(crate) fn required_text<'a>(value: Option<&'a Value>, key: Key) -> Result<&'a str, KeyFault>
+    ensures { key_outcome (λ t. t.now) result ≡ required_in (key_name key) as_str (option_map (λ v. view v.now) value.entry) }
+{
+    match value {
+        None => Err(KeyFault::Missing { key }),
+        Some(value) => text_of(value, key),
+    }
 }
 
 // The value at a required key.
@@ -96,14 +106,21 @@ pub fn integer(table: &Table, key: Key, low: u32, high: u32) -> Result<u32, KeyF
     within(number, key, low, high)
 }
 
+/// The integer in a value, or a default if there is none.
+pub(crate) fn integer_in(value: Option<&Value>, key: Key, default: i64) -> Result<i64, KeyFault>
+    ensures { key_outcome (λ z. z) result ≡ value_or (key_name key) as_integer default (option_map (λ v. view v.now) value.entry) }
+{
+    match value {
+        None => Ok(default),
+        Some(value) => integer_of(value, key),
+    }
+}
+
 /// The integer at a key, or a default if the key is missing.
 pub fn integer_or(table: &Table, key: Key, default: i64) -> Result<i64, KeyFault>
     ensures { key_outcome (λ z. z) result ≡ with_default (key_name key) as_integer default (table_view table.now) }
 {
-    match member(table, key) {
-        None => Ok(default),
-        Some(value) => integer_of(value, key),
-    }
+    integer_in(member(table, key), key, default)
 }
 
 /// The boolean at a required key.
@@ -113,29 +130,43 @@ pub fn boolean(table: &Table, key: Key) -> Result<bool, KeyFault>
     boolean_of(required(table, key)?, key)
 }
 
+/// The boolean in a value; false if there is none.
+pub(crate) fn flag_of(value: Option<&Value>, key: Key) -> Result<bool, KeyFault>
+    ensures { key_outcome (λ b. b) result ≡ value_or (key_name key) as_bool false (option_map (λ v. view v.now) value.entry) }
+{
+    match value {
+        None => Ok(false),
+        Some(value) => boolean_of(value, key),
+    }
+}
+
 /// The boolean at a key; false if the key is missing.
 pub fn flag(table: &Table, key: Key) -> Result<bool, KeyFault>
     ensures { key_outcome (λ b. b) result ≡ with_default (key_name key) as_bool false (table_view table.now) }
 {
-    match member(table, key) {
-        None => Ok(false),
-        Some(value) => boolean_of(value, key),
-    }
+    flag_of(member(table, key), key)
 }
 
 /// The text at a required key.
 pub fn text<'a>(table: &'a Table, key: Key) -> Result<&'a str, KeyFault>
     ensures { key_outcome (λ t. t.now) result ≡ rule.required (key_name key) as_str (table_view table.now) }
 {
-    text_of(required(table, key)?, key)
+    required_text(member(table, key), key)
+}
+
+/// The text in a value, or a default if there is none.
+pub(crate) fn text_in<'a>(value: Option<&'a Value>, key: Key, default: &'static str) -> Result<&'a str, KeyFault>
+    ensures { key_outcome (λ t. t.now) result ≡ value_or (key_name key) as_str default.now (option_map (λ v. view v.now) value.entry) }
+{
+    match value {
+        None => Ok(default),
+        Some(value) => text_of(value, key),
+    }
 }
 
 /// The text at a key, or a default if the key is missing.
 pub fn text_or<'a>(table: &'a Table, key: Key, default: &'static str) -> Result<&'a str, KeyFault>
     ensures { key_outcome (λ t. t.now) result ≡ with_default (key_name key) as_str default.now (table_view table.now) }
 {
-    match member(table, key) {
-        None => Ok(default),
-        Some(value) => text_of(value, key),
-    }
+    text_in(member(table, key), key, default)
 }

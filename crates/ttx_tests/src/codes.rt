@@ -1,6 +1,8 @@
 //! Bytes of the standard's tables, and a sent text.
 
-use ttx_code::{all_odd, are_readable, are_words, ham, is_word, number_of, odd, odd_of, unham};
+use ttx_code::{
+    all_odd, are_readable, are_words, ham, ham_pair, is_word, number_of, odd, odd_of, unham,
+};
 
 // The code word of each number (EN 300 706, 8.2).
 const WORDS: [u8; 16] = [
@@ -47,6 +49,8 @@ fn one_wrong_bit_is_corrected(rt: HostRuntime) {
     assert!(rt; number_of(0x14) == 0 && number_of(0xea) == 15 && number_of(0x16) == 0);
     assert!(rt; are_readable(&[0x15, 0x14]) && !are_readable(&[0x15, 0x16]));
     assert!(rt; are_words(&WORDS) && !are_words(&[0x15, 0x14]));
+    // the lower four bits come first
+    assert!(rt; ham_pair(0x2f) == [0xea, 0x49]);
 }
 
 #[test]

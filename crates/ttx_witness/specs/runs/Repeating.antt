@@ -11,7 +11,6 @@
 --   FollowInTime            each run ends within the limit after the owner of the one before it
 use Rattle.std.specs.Prelude.{◌≡◌, ◌↔◌, ℕ, ◌<◌, ◌≤◌, ℤ, pos, ◌+ℤ◌, ◌-ℤ◌, ◌<ℤ◌, ◌≤ℤ◌, true, List, [], ◌∷◌, length}
 use Rattle.std.specs.Prelude.{Contains, slice_index_or, Option, Some, None}
-use Rattle.std.specs.List.{AllByRecursion}
 pub use Rattle.ttx_page.specs.Runs.{IsSentAt, IsSureSent, Successive, IsRunFrom, BeginsSureRun, RunEndsBelow}
 pub use Rattle.ttx_page.specs.Streams.{turned}
 pub use Rattle.ttx_certificate.specs.NamedStarts.{next_start}

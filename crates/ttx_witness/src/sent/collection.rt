@@ -1,6 +1,6 @@
 //! Collects the transmissions of all items of all pages in one period of a cycle.
 
-ghost use Rattle.std.specs.Prelude.{◌≡◌, ◌≢◌, ◌<◌, ◌*◌, ℕ, IfOk, OnOk, List, [], ◌++◌, length, map};
+ghost use Rattle.std.specs.Prelude.{◌≡◌, ◌≢◌, ◌<◌, ◌*◌, ℕ, IfOk, OnOk, List, [], ◌∷◌, ◌++◌, length, map};
 ghost use Rattle.std.specs.List.{AllPairs};
 ghost use Rattle.ttx_header.specs.Ids.{Id};
 ghost use Rattle.ttx_page.specs.Views.{page_of, ids_of};
@@ -34,6 +34,20 @@ fn empty_lists(alloc: Global, count: usize) -> Result<Vec<Transmissions>, NoMemo
     Ok(lists)
 }
 
+// Appends a transmission to the list of its item. An item that is sent more often than a list holds in place is mostly sent often, so the
+// first allocation has room for 16.
+fn push_sent(list: &mut Transmissions, transmission: Transmission) -> Result<(), NoMemory>
+    ensures { OnOk result (list.new.items ≡ list.old.items ++ transmission ∷ []) }
+{
+    if list.len() == list.inline_size() && list.reserve(14).is_err() {
+        return Err(NoMemory);
+    }
+    match list.push(transmission) {
+        Ok(()) => Ok(()),
+        Err(_) => Err(NoMemory),
+    }
+}
+
 // Appends what a slot sends to the list of its item.
 fn add_sent(lists: &mut Vec<Transmissions>, sent: Option<Sent>) -> Result<(), NoMemory>
     ensures count { length lists.new.items ≡ length lists.old.items }
@@ -45,9 +59,7 @@ fn add_sent(lists: &mut Vec<Transmissions>, sent: Option<Sent>) -> Result<(), No
     let Some(place) = place_in(sent, lists.len()) else {
         return Ok(());
     };
-    if lists[place].push(sent.transmission).is_err() {
-        return Err(NoMemory);
-    }
+    push_sent(&mut lists[place], sent.transmission)?;
     Ok(())
 }
 

@@ -1,4 +1,4 @@
-use Rattle.std.proofs.Common.{◌≡◌, List, ℕ, Option, Some, None, IfSome, subst}
+use Rattle.std.proofs.Common.{List, ℕ, Option, Some, None, IfSome, subst}
 use Rattle.std.specs.Prelude.{⊤}
 use Rattle.ttx_cycle.specs.Counters.{faults_of}
 use Rattle.ttx_cycle.specs.Counts.{HasRisen}

@@ -4,9 +4,9 @@ use Rattle.std.proofs.Common.{◌∷◌, ◌++◌, map, length, get_or, slice_ge
 use Rattle.std.proofs.Common.{arith, eqb-true, eq-eqb}
 use Rattle.std.specs.List.{All, AllByRecursion, AllPairs, Contains}
 use Rattle.std.proofs.lemmas.Option.{slice_get_within, slice_get_cases}
-use Rattle.std.proofs.lemmas.List.{length-map, length-append}
+use Rattle.std.proofs.lemmas.List.{length-append}
 use Rattle.std.proofs.lemmas.Bool.{cases_lt, leb-true, cases_Bool, and_from, and_parts, both_ways, cond-true, cond-false}
-use Rattle.std.specs.Prelude.{nat_le, is_some, is_none, IsTrue, MatchOption}
+use Rattle.std.specs.Prelude.{nat_le, is_some, MatchOption}
 use Rattle.ttx_header.specs.Control.{c10}
 use Rattle.ttx_packet.specs.Slots.{is_clean}
 use Rattle.std.specs.List.Sorted.{IsPermutation, IsNonDecreasingBy}

@@ -11,8 +11,8 @@ use Rattle.ttx_page.specs.declared.item.Item.TheVariants.{Row as TheRow, Links a
 use Rattle.ttx_page.specs.Streams.{heads_page, carries}
 use Rattle.ttx_code.specs.Words.{odd_byte}
 use Rattle.ttx_page.specs.Pages.{Page, page_row}
-use Rattle.ttx_page.specs.Steady.{erases_page, RowIsRight}
-use Rattle.ttx_witness.specs.faults.Comparing.{HoldsHeader, HoldsId, HoldsNoHeader, HoldsNoRow, HoldsNoLinks, mine_after, heads_other_subpage}
+use Rattle.ttx_page.specs.Steady.{RowIsRight}
+use Rattle.ttx_witness.specs.faults.Comparing.{HoldsHeader, HoldsId, HoldsNoHeader, HoldsNoRow, HoldsNoLinks}
 use Rattle.ttx_header.specs.Laws.{HeadersHaveFields, HeadersAreHeaders}
 use Rattle.ttx_witness.proofs.lemmas.sent.OwnersAfterSlot.{packet_is, IsNoHeader, no_header}
 

@@ -1,4 +1,4 @@
-use Rattle.std.proofs.Common.{◌≡◌, ◌∙◌, map, drop, take, ap, sym}
+use Rattle.std.proofs.Common.{◌≡◌, ◌∙◌, map, take, ap, sym}
 use Rattle.std.proofs.lemmas.Bool.{both_ways}
 use Rattle.ttx_code.specs.Words.{odd_byte}
 use Rattle.ttx_witness.proofs.lemmas.faults.SentBytes.{back_sent, front_sent, whole_sent}

@@ -1,4 +1,4 @@
-use Rattle.std.proofs.Common.{[], w32, refl, ap, ◌∙◌, subst, arith}
+use Rattle.std.proofs.Common.{[], w32, refl, ◌∙◌, subst, arith}
 use Rattle.std.proofs.lemmas.Int.{to_z-of_z}
 use Rattle.ttx_packet.specs.Slots.{kind_of}
 use Rattle.ttx_witness.specs.sent.Collected.{owner_for}

@@ -1,7 +1,6 @@
 use Rattle.std.proofs.Common.{◌≡◌, ℕ, w32, false, ◌-◌, ◌<◌, ◌==◌, Bool, if◌then◌else◌, List, get_or, Option, Some, None, refl, ap, ◌∙◌, subst}
 use Rattle.std.proofs.lemmas.Int.{to_z-of_z}
 use Rattle.ttx_packet.specs.Slots.{kind_of}
-use Rattle.ttx_header.specs.Ids.{Id}
 use Rattle.ttx_witness.specs.sent.Collected.{taint}
 use Rattle.ttx_witness.specs.sent.IndexedHeaders.{IsHeaderOf, IsIndexed}
 use Rattle.ttx_witness.specs.declared.sent.owners.Owner.{Owner}
