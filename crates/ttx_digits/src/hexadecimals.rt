@@ -6,6 +6,27 @@ ghost use Rattle.ttx_digits.specs.Digits.{hex_digit, hex_byte};
 
 use std::alloc::AllocError;
 
+// The value of each byte as a hexadecimal digit in capitals; 16 marks a byte that is no digit.
+#[rattlefmt::skip]
+static VALUES: [u8; 256] = [
+    16, 16, 16, 16, 16, 16, 16, 16, 16, 16, 16, 16, 16, 16, 16, 16,
+    16, 16, 16, 16, 16, 16, 16, 16, 16, 16, 16, 16, 16, 16, 16, 16,
+    16, 16, 16, 16, 16, 16, 16, 16, 16, 16, 16, 16, 16, 16, 16, 16,
+     0,  1,  2,  3,  4,  5,  6,  7,  8,  9, 16, 16, 16, 16, 16, 16,
+    16, 10, 11, 12, 13, 14, 15, 16, 16, 16, 16, 16, 16, 16, 16, 16,
+    16, 16, 16, 16, 16, 16, 16, 16, 16, 16, 16, 16, 16, 16, 16, 16,
+    16, 16, 16, 16, 16, 16, 16, 16, 16, 16, 16, 16, 16, 16, 16, 16,
+    16, 16, 16, 16, 16, 16, 16, 16, 16, 16, 16, 16, 16, 16, 16, 16,
+    16, 16, 16, 16, 16, 16, 16, 16, 16, 16, 16, 16, 16, 16, 16, 16,
+    16, 16, 16, 16, 16, 16, 16, 16, 16, 16, 16, 16, 16, 16, 16, 16,
+    16, 16, 16, 16, 16, 16, 16, 16, 16, 16, 16, 16, 16, 16, 16, 16,
+    16, 16, 16, 16, 16, 16, 16, 16, 16, 16, 16, 16, 16, 16, 16, 16,
+    16, 16, 16, 16, 16, 16, 16, 16, 16, 16, 16, 16, 16, 16, 16, 16,
+    16, 16, 16, 16, 16, 16, 16, 16, 16, 16, 16, 16, 16, 16, 16, 16,
+    16, 16, 16, 16, 16, 16, 16, 16, 16, 16, 16, 16, 16, 16, 16, 16,
+    16, 16, 16, 16, 16, 16, 16, 16, 16, 16, 16, 16, 16, 16, 16, 16,
+];
+
 /// The hexadecimal digit of a number below 16, in capitals.
 pub fn digit(number: u8) -> char
     requires { number < 16 }
@@ -35,16 +56,12 @@ pub fn push_subcode(text: &mut String, sub: u16) -> Result<(), AllocError>
 }
 
 // The value of a hexadecimal digit in capitals.
-#[tactic(auto, unfolding(crate::specs::Digits::hex_in))]
 fn hex_in(byte: u8) -> Option<u8>
     ensures value { result ≡ rule.hex_in byte }
     ensures small { IfSome result (λ n. n < 16) }
 {
-    match byte {
-        b'0'..=b'9' => Some(byte - b'0'),
-        b'A'..=b'F' => Some(byte - b'A' + 10),
-        _ => None,
-    }
+    let value = VALUES[usize::from(byte)];
+    if value < 16 { Some(value) } else { None }
 }
 
 /// The number in the two digits at bytes `at` and `at + 1`, high digit first; `None` if one of them is not a digit 0 to 9 or A to F.
