@@ -155,7 +155,11 @@ pub fn text<'a>(table: &'a Table, key: Key) -> Result<&'a str, KeyFault>
 }
 
 /// The text in a value, or a default if there is none.
-pub(crate) fn text_in<'a>(value: Option<&'a Value>, key: Key, default: &'static str) -> Result<&'a str, KeyFault>
+pub(crate) fn text_in<'a>(
+    value: Option<&'a Value>,
+    key: Key,
+    default: &'static str,
+) -> Result<&'a str, KeyFault>
     ensures { key_outcome (λ t. t.now) result ≡ value_or (key_name key) as_str default.now (option_map (λ v. view v.now) value.entry) }
 {
     match value {
