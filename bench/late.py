@@ -7,7 +7,9 @@ Plans, finds and certifies random services (200, seed 1), each as it is, with `-
 model in this script finds from the packets which headers follow each page. If pkg-config finds libzvbi (zvbi-0.2), its decoder gets the
 cycle from some tuning slots on: for three periods, and for D times L plus G slots. Numbers with subpages are keyed without subcode, too,
 where `certify --late --numbers` says yes: every frame from then on has to show one of the subpages as authored, each of them again within
-as many slots, and for as many slots as it is said to stay. The status is 1 if the certifier and the model differ, if a promised page is
+as many slots, and for as many slots as it is said to stay. Such a number is read when libzvbi reports a stored page, at the end of a block:
+then stays are as `certify` says. Read after each slot, libzvbi shows a subpage that it has kept from its header on, a block earlier, in its
+former text until the block ends. The status is 1 if the certifier and the model differ, if a promised page is
 missing or has other rows than authored, or if a frame does not show what is said of a number.
 """
 import random

@@ -5,9 +5,11 @@ usage: table.py PROGRAM [WORD]
 
 With WORD, only rows whose name has it. A time is the least of five runs, in milliseconds. Instructions, in millions, are those that callgrind
 counts, if there is valgrind. Memory is the most that the program has held, in megabytes, if there is /usr/bin/time. "Of 8,192" is the ratio
-to the figure for 8,192 slots: of instructions, or else of times. If pkg-config finds libzvbi (zvbi-0.2), its decoder gets the same packets.
+to the figure for 8,192 slots: of instructions, or else of times. "Net" are the instructions without those that reading the service takes, as
+`preview` of one page counts them; then the ratio is of these. If pkg-config finds libzvbi (zvbi-0.2), its decoder gets the same packets.
 Goals that are missed are printed at the end. The status is 1 if a command fails.
 """
+import functools
 import os
 import re
 import shlex
@@ -33,6 +35,7 @@ class Row:
     most: float = 0  # goal: milliseconds
     ratio: float = 0  # goal: times the first of these
     growth: float = 0  # goal: times the figure for 8,192 slots
+    reads: tuple = ()  # the services that are read
     counted: bool = True  # few enough instructions to count them
 
 
@@ -41,24 +44,26 @@ SENT = "65536.t42 sent.toml"
 ROWS = [
     Row("`inspect`, 65,536 slots", "inspect 65536.t42", "inspect 8192.t42",
         ("od -An -tx1 -v 65536.t42", "sha256sum 65536.t42", "./vbi 65536.t42 65536"), growth=9),
-    Row("`plan`, 2,000 pages", "plan inhibited.toml out"),
-    Row("`plan --spread`, the same", "plan inhibited.toml out --spread", beside=("ttx plan inhibited.toml out",), ratio=2),
+    Row("`plan`, 2,000 pages", "plan inhibited.toml out", reads=("inhibited.toml",)),
+    Row("`plan --spread`, the same", "plan inhibited.toml out --spread", beside=("ttx plan inhibited.toml out",), ratio=2,
+        reads=("inhibited.toml",)),
     Row("`plan --spread`, 300 promises", "plan promised-serial.toml out --spread", most=1000),
     Row("`compose`, 2,000 pages of 23 rows", "compose author.toml out"),
     Row("`decompose`, the same", "decompose sent.toml out"),
-    Row("`check`, the same", "check sent.toml"),
+    Row("`check`, the same", "check sent.toml", reads=("sent.toml",)),
     Row("`find`, 2,000 pages, 65,536 slots, repeat 8", f"find {INHIBITED.format(65536)} out --repeat 8", f"find {INHIBITED.format(8192)} out --repeat 8",
-        ("sha256sum inhibited-65536.t42",), growth=9),
-    Row("`certify`, the same", f"certify {INHIBITED.format(65536)} 65536.cert", f"certify {INHIBITED.format(8192)} 8192.cert", growth=9),
-    Row("`certify`, 2,000 pages of 23 rows, repeat 1", f"certify {SENT} sent.cert"),
-    Row("`certify --twice`, the same", f"certify {SENT} sent.cert --twice"),
-    Row("`wait`, the same", f"wait {SENT}"),
-    Row("`report`, the same", f"report {SENT} sent.cert out"),
-    Row("`certify`, 50,000 named starts, repeat 8", "certify blank-65536.t42 blank.toml blank.cert"),
-    Row("`certify --twice`, the same", "certify blank-65536.t42 blank.toml blank.cert --twice"),
+        ("sha256sum inhibited-65536.t42",), growth=9, reads=("inhibited.toml",)),
+    Row("`certify`, the same", f"certify {INHIBITED.format(65536)} 65536.cert", f"certify {INHIBITED.format(8192)} 8192.cert", growth=9,
+        reads=("inhibited.toml",)),
+    Row("`certify`, 2,000 pages of 23 rows, repeat 1", f"certify {SENT} sent.cert", reads=("sent.toml",)),
+    Row("`certify --twice`, the same", f"certify {SENT} sent.cert --twice", reads=("sent.toml",)),
+    Row("`wait`, the same", f"wait {SENT}", reads=("sent.toml",)),
+    Row("`report`, the same", f"report {SENT} sent.cert out", reads=("sent.toml",)),
+    Row("`certify`, 50,000 named starts, repeat 8", "certify blank-65536.t42 blank.toml blank.cert", reads=("blank.toml",)),
+    Row("`certify --twice`, the same", "certify blank-65536.t42 blank.toml blank.cert --twice", reads=("blank.toml",)),
     Row("`splice`, 2,000 common pages, 65,536 slots", "splice 65536.t42 65536.t42 sent.toml sent.toml sent.cert sent.cert",
-        beside=(f"ttx certify {SENT} sent.cert",), ratio=4),
-    Row("`refute`, 2,000 pages sent unchanged", f"refute {SENT} sent.cert", most=2000),
+        beside=(f"ttx certify {SENT} sent.cert",), ratio=4, reads=("sent.toml", "sent.toml")),
+    Row("`refute`, 2,000 pages sent unchanged", f"refute {SENT} sent.cert", most=2000, reads=("sent.toml",)),
     Row("`refute`, the same with corrected bytes", "refute corrected.t42 sent.toml corrected.cert", counted=False),
     Row("`receive`, 1,000,000 slots", "receive 65536.t42 100 --slots 1000000", beside=("sha256sum 42-mb", "./vbi 65536.t42 1000000"), ratio=0.2),
     Row("`show --as svg`, 1,000,000 slots", "show 65536.t42 100 --slots 1000000 --as svg"),
@@ -136,10 +141,19 @@ class Bench:
         command = [self.program, *shlex.split(words)]
         return self.milliseconds(command), self.instructions(command) if counted else None
 
+    @functools.cache
+    def reading(self, service):
+        """Millions of instructions that reading a service takes."""
+        return self.instructions([self.program, "preview", service, "100"])
+
+    def net(self, row, count):
+        """Millions of instructions without those that reading the services of a row takes."""
+        return count and count - sum(map(self.reading, row.reads))
+
     def grown(self, row, took, count):
         """How often the figure for 8,192 slots goes into that for 65,536."""
         small_time, small_count = self.measure(row.small, row.counted)
-        grown = count / small_count if count and small_count else took / small_time
+        grown = self.net(row, count) / self.net(row, small_count) if count and small_count else took / small_time
         if grown > row.growth:
             self.missed.append(f"{row.name}: {grown:.1f} times the figure for 8,192 slots, not at most {row.growth}")
         return f"of 8,192: {grown:.1f}"
@@ -158,7 +172,8 @@ class Bench:
         if row.most and took > row.most:
             self.missed.append(f"{row.name}: {took:,.1f} ms, not at most {row.most}")
         memory = self.megabytes([self.program, *shlex.split(row.words)])
-        beside = [*self.tools(row, took), *([self.grown(row, took, count)] if row.small else [])]
+        net = [f"net {self.net(row, count):,.1f}"] if row.reads and count else []
+        beside = [*net, *self.tools(row, took), *([self.grown(row, took, count)] if row.small else [])]
         figures = [f"{took:,.1f}", *("-" if n is None else f"{n:,.1f}" for n in (count, memory))]
         print(f"| {row.name} | {' | '.join(figures)} | {', '.join(beside)} |", flush=True)
 
