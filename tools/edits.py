@@ -31,6 +31,7 @@ import subprocess
 import sys
 import tempfile
 import threading
+import typing
 from dataclasses import dataclass
 
 RECORD = pathlib.Path("tools/edits.tsv")
@@ -41,6 +42,7 @@ COMMENTS = {".rt": "//", ".antt": "--"}
 ENOUGH = {"refused", "refused by an answer", "refused by a lemma"}
 
 ITEM = re.compile(r"\s*(?:pub(?:\([a-z]+\))? )?(?:const |unsafe )?(?:fn|struct|enum|const|static|trait|type)\s+(\w+)")
+FUNCTION = re.compile(r"\s*(?:pub(?:\([a-z]+\))? )?(?:const |unsafe )?fn ")
 IMPL = re.compile(r"impl\s*(?:[\w:]+\s+for\s+)?(?:\w+::)*(\w+)")
 DEFINITION = re.compile(r"(?:pub )?(?:abbrev |unfoldable |record |data )*(?:pub )?(?!where\b|unfolding\b|use\b|mod\b|--)([^\s:{})]+)")
 
@@ -66,6 +68,15 @@ class Body:
     @property
     def key(self):
         return self.crate, self.edit, self.heading, self.sum
+
+
+class Item(typing.NamedTuple):
+    """A function or definition that a mutant changes; `owner` is the type whose method it is, if it is one."""
+
+    path: str
+    name: str
+    owner: str
+    is_function: bool
 
 
 def checksum(data):
@@ -135,11 +146,13 @@ def steps(lines):
             yield path, old, rest
 
 
-def name_above(path, text, at):
+def item_at(path, text, at):
     """The function or definition at a place of a file: the one whose first line is the nearest above."""
     begins = ITEM if path.endswith(".rt") else DEFINITION
-    found = (begins.match(line) for line in reversed(text[: text.find("\n", at)].split("\n")))
-    return next((it[1] for it in found if it), "")
+    for line in reversed(text[: text.find("\n", at)].split("\n")):
+        if found := begins.match(line):
+            return Item(path, found[1], type_above(text, at), path.startswith("src/") and bool(FUNCTION.match(line)))
+    return Item(path, "", "", False)
 
 
 def type_above(text, at):
@@ -156,20 +169,19 @@ def type_above(text, at):
 
 @functools.cache
 def changed_items(body):
-    """What a mutant changes: for each change the file, the function or definition, and the type whose method it is."""
+    """The functions and definitions that a mutant changes."""
     found = []
     for path, old, _ in steps(body.lines):
         file = pathlib.Path("crates", body.crate, path)
         if file.is_file() and not old.startswith("use "):
             text = file.read_text()
-            at = text.find(old)
-            found.append((path, name_above(path, text, at), type_above(text, at)))
+            found.append(item_at(path, text, text.find(old)))
     return list(dict.fromkeys(found))
 
 
 def turned(body):
     """The functions and definitions that a mutant changes, each with its file."""
-    return list(dict.fromkeys((path, name) for path, name, _ in changed_items(body)))
+    return list(dict.fromkeys((it.path, it.name) for it in changed_items(body)))
 
 
 def misnamed(body):
@@ -183,11 +195,11 @@ def misnamed(body):
 def turned_functions(body):
     """The functions that a mutant changes, each as a pattern of its path in the crate. A method is named by the module of its type."""
     found = []
-    for path, name, owner in changed_items(body):
-        if path.startswith("src/"):
-            module = path.removeprefix("src/").removesuffix(".rt").replace("/", "::")
-            found.append(rf"{'' if module == 'lib' else re.escape(module) + '::'}(?:\w+::)*{re.escape(name)}")
-            found += [rf"(?:\w+::)*{owner}::{re.escape(name)}"] * bool(owner)
+    for it in changed_items(body):
+        if it.is_function:
+            module = it.path.removeprefix("src/").removesuffix(".rt").replace("/", "::")
+            found.append(rf"{'' if module == 'lib' else re.escape(module) + '::'}(?:\w+::)*{re.escape(it.name)}")
+            found += [rf"(?:\w+::)*{it.owner}::{re.escape(it.name)}"] * bool(it.owner)
     return found
 
 
@@ -202,10 +214,7 @@ def is_body(body):
         if not path.startswith("src/") or not file.is_file():
             return False
         text = file.read_text()
-        at = text.find(old)
-        before = text[: text.find("\n", at)].split("\n")
-        first = next((line for line in reversed(before) if ITEM.match(line)), "")
-        is_of_function = re.match(r"\s*(?:pub(?:\([a-z]+\))? )?(?:const |unsafe )?fn ", first)
+        is_of_function = item_at(path, text, text.find(old)).is_function
         if not is_of_function or re.match(r"\s*(ensures|requires|ghost|pub |fn |impl|#)", old):
             return False
     return True
@@ -311,6 +320,12 @@ class Room:
                 file.write_text(text)
 
 
+def function_of(path, goal):
+    """The function that a written proof of a goal belongs to. Functions that call each other share a file; their goals begin with the name."""
+    *modules, last = path.split("/")
+    return "::".join([*modules, re.match(r"`?(\w*)", goal)[1] if last.startswith("+") else last])
+
+
 def verdict_of(body, status, told):
     """The result of a check: the verdict, the refused function (first one that the mutant changes), and how."""
     if status == 0:
@@ -319,7 +334,7 @@ def verdict_of(body, status, told):
         first = next((it for it in told.split("\n") if LIMIT.search(it) or "error" in it), told.strip().split("\n")[-1])
         return "limit" if LIMIT.search(told) else "bad", "", first
     lacking = LACKING.findall(told)
-    misfits = [(path.replace("/", "::"), why) for path, why in WRITTEN.findall(told)]
+    misfits = [(function_of(path, why), why) for path, why in WRITTEN.findall(told)]
     unproved = set(NOT_PROVED.findall(told))
     answers = [(function, why) for function, why in misfits if function in unproved and not NAME_GONE.search(why)]
     for verdict, found in (("refused", lacking), ("refused by an answer", answers)):
