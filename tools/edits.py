@@ -35,6 +35,7 @@ import typing
 from dataclasses import dataclass
 
 RECORD = pathlib.Path("tools/edits.tsv")
+KEPT = pathlib.Path(__file__).resolve().parent / "kept.py"
 QUICK_RT = pathlib.Path(__file__).resolve().parent / "quick_rt.py"
 HEAD = ["crate", "edit", "heading", "body", "sources", "verdict", "function", "how"]
 PARTS = ("src", "specs", "proofs")
@@ -436,6 +437,9 @@ def main():
         print(f"edits: {len(every)} wrong bodies, {len(stale)} not recorded as they stand" + (f": {which} (make edits tries them)" if stale else ""))
         return 1 if wrong else 0
     record.keep(set(names), {body.key for name in names for body in bodies_of(name)})
+    if stale:
+        # a check builds each library that it does not find in out/, so those that rt ci kept are put there first
+        subprocess.run([sys.executable, KEPT], check=False)
     mine = hashlib.sha256(str(pathlib.Path.cwd()).encode()).hexdigest()[:8]
     top = pathlib.Path(tempfile.gettempdir(), f"ttx-edits-{mine}")
     rooms = [Room(top / str(n), known) for n in range(words.jobs)]
