@@ -344,9 +344,9 @@ def verdict_of(body, status, told):
             return verdict, *mine[0]
     if lacking:
         return "refused", *lacking[0]
-    # a mutant of a definition leaves the functions as they are: what it refutes is a lemma about the definition
-    lemmas = [] if turned_functions(body) else [it for it in LEMMA.findall(told) if not NAME_GONE.search(it[1])]
-    if lemmas:
+    # what a mutant of a definition refutes is a lemma about the definition
+    lemmas = [it for it in LEMMA.findall(told) if not NAME_GONE.search(it[1])]
+    if lemmas and not all(it.is_function for it in changed_items(body)):
         return "refused by a lemma", *lemmas[0]
     gone = [it for it in misfits if NAME_GONE.search(it[1])]
     first = next((it for it in told.split("\n") if ": error" in it), "")
