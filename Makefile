@@ -52,7 +52,6 @@ bench: ttx
 	python3 bench/air.py ./ttx
 
 edits:
-	-python3 tools/kept.py
 	python3 tools/edits.py --jobs $(JOBS)
 
 compare: ttx
