@@ -5,7 +5,7 @@
 # make install    puts program, man page and completions under PREFIX (/usr/local)
 # make dist       dist/ttx-VERSION-x86_64-linux.tar.gz: program, man page, completions and documents, and its checksum
 # make bench      measures the program beside plain tools, as rows of docs/MEASURED.md
-# make edits      tries each mutant of the must-fail edits by itself, and records the results in tools/edits.tsv
+# make edits      tries by itself each mutant of the must-fail edits that tools/edits.tsv does not have as it stands, and records the results
 # make compare    compares what certify --late says with what libzvbi's decoder shows, where there is one, also under damaged receptions
 
 BUILT = crates/ttx/out/ttx
@@ -31,6 +31,8 @@ ttx:
 
 test:
 	RT_JOBS=$(JOBS) python3 tools/progress.py out/test.log rt ci
+	python3 tools/refusals.py out/test.log
+	python3 tools/edits.py --jobs $(JOBS)
 	$(MAKE) --no-print-directory --jobs $$(nproc) --output-sync $(SCRIPTS)
 
 $(filter %.py,$(SCRIPTS)):
