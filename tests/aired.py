@@ -60,6 +60,13 @@ def ran(program, folder, *words):
     return subprocess.run([program, *words], cwd=folder, capture_output=True, text=True, check=False)
 
 
+def answered(program, folder, *words, statuses=(0,)):
+    """A run that must end with one of these statuses and write nothing to standard error."""
+    run = ran(program, folder, *words)
+    assert run.returncode in statuses and not run.stderr, run
+    return run
+
+
 def mark_of(file):
     return " " + hashlib.sha256(file).hexdigest()
 
@@ -73,8 +80,7 @@ def composed(program, folder, file):
     if not is_author(file):
         return file
     (folder / "author.toml").write_bytes(file)
-    run = ran(program, folder, "compose", "author.toml", "composed.toml")
-    assert run.returncode == 0, run.stdout
+    answered(program, folder, "compose", "author.toml", "composed.toml")
     return (folder / "composed.toml").read_bytes()
 
 
@@ -87,6 +93,8 @@ class Service:
         self.text = text = composed(program, folder, file)
         (folder / "text.toml").write_bytes(text)
         self.planned = ran(program, folder, "plan", "text.toml", "text.t42", *self.late)
+        is_refused = self.planned.returncode == 2 and self.planned.stderr.startswith("refused: ")
+        assert is_refused or (self.planned.returncode == 0 and not self.planned.stderr), self.planned
         self.slots = []
         if self.planned.returncode == 0:
             data = (folder / "text.t42").read_bytes()
@@ -98,8 +106,8 @@ class Service:
         """The certificate with this deadline, or with the least one, is left in the folder; says that one."""
         self.again()
         asked = [] if deadline is None else ["--deadline", str(deadline)]
-        said = ran(self.program, self.folder, "find", "text.t42", "text.toml", "text.cert", *asked).stdout
-        return int(re.search(r"deadline (\d+)", said)[1]) if said.startswith("found") else None
+        said = answered(self.program, self.folder, "find", "text.t42", "text.toml", "text.cert", *asked).stdout
+        return int(re.fullmatch(r"found deadline (\d+)\n", said)[1])
 
     def again(self):
         (self.folder / "text.toml").write_bytes(self.text)
@@ -109,13 +117,14 @@ class Service:
         """The slots that late receivers wait."""
         if not self.late:
             return 0
-        said = ran(self.program, self.folder, "certify", "text.t42", "text.toml", "text.cert", "--late").stdout
+        said = answered(self.program, self.folder, "certify", "text.t42", "text.toml", "text.cert", "--late").stdout
         return int(re.search(r"late (\d+)", said)[1])
 
     def waits(self):
         """The pages in their order, with the fields that a viewer waits."""
         self.again()
-        said = ran(self.program, self.folder, "wait", "text.t42", "text.toml").stdout
+        # the status is 1 if a promise is not kept
+        said = answered(self.program, self.folder, "wait", "text.t42", "text.toml", statuses=(0, 1)).stdout
         return [(page, int(fields)) for page, fields in re.findall(r"^(\w+/\w+) (\d+) fields", said, re.M)]
 
 
@@ -127,8 +136,9 @@ def spliced(old, new, deadline):
         for end in "toml", "t42", "cert":
             os.replace(folder / f"text.{end}", folder / f"{name}.{end}")
     words = ["old.t42", "new.t42", "old.toml", "new.toml", "old.cert", "new.cert", *old.late]
-    said = ran(old.program, folder, "splice", *words).stdout
-    return None if said == "yes\n" else said
+    run = answered(old.program, folder, "splice", *words, statuses=(0, 1))
+    assert (run.returncode == 0) == (run.stdout == "yes\n"), run
+    return run.stdout if run.returncode else None
 
 
 def page_begun(slot):
@@ -323,10 +333,10 @@ def author_words(report):
 
 def check_words(program, folder, text):
     (folder / "checked.toml").write_bytes(text)
-    said = ran(program, folder, "check", "checked.toml")
-    if said.returncode != 2:
+    run = answered(program, folder, "check", "checked.toml", statuses=(0, 2))
+    if run.returncode == 0:
         return None
-    return author_words(said.stdout) if said.stdout.startswith("checked.toml:") else said.stdout.rstrip("\n")
+    return author_words(run.stdout) if run.stdout.startswith("checked.toml:") else run.stdout.rstrip("\n")
 
 
 def steps(base):
@@ -470,9 +480,24 @@ def wrong_replay(program, folder, texts, stream):
     shutil.rmtree(names)
     if (run.returncode, run.stderr) != (0, b"yes\n") or run.stdout != stream:
         return f"replay: status {run.returncode}, {run.stderr.decode()}, {len(run.stdout)} bytes of {len(stream)}"
-    if texts.count(texts[0]) == 1 and (lost.returncode, lost.stdout, lost.stderr) != (2, b"", f"refused: text{mark_of(texts[0])}\n".encode()):
+    # the first text may be there once more
+    refused = 2, b"", f"refused: text{mark_of(texts[0])}\n".encode()
+    if (lost.returncode, lost.stdout, lost.stderr) != (refused if texts.count(texts[0]) == 1 else (0, stream, b"yes\n")):
         return f"replay without the first text: status {lost.returncode}, {lost.stderr.decode()}"
     return None
+
+
+def fed(air, path, head_end, texts, count):
+    """Gives texts to a running `air` and to the plain head-end, until so many slots are sent. The texts that are not looked at."""
+    give(path, texts[0], air)
+    rest = list(texts[1:])
+    while head_end.sent + len(head_end.service.slots) <= count:
+        head_end.period()
+        if head_end.looks():
+            text = rest.pop(0) if rest else head_end.tried
+            give(path, text, air)
+            news(head_end, text)
+    return rest
 
 
 def wrong_air(program, folder, texts, within, late, periods, clock=MIDNIGHT):
@@ -488,14 +513,12 @@ def wrong_air(program, folder, texts, within, late, periods, clock=MIDNIGHT):
     threads = [threading.Thread(target=lambda n, s: got.update({n: s.read()}), args=(n, s)) for n, s in (("out", air.stdout), ("err", air.stderr))]
     for thread in threads:
         thread.start()
-    give(path, texts[0], air)
-    rest = list(texts[1:])
-    while head_end.sent + len(head_end.service.slots) <= fields * first.lines:
-        head_end.period()
-        if head_end.looks():
-            text = rest.pop(0) if rest else head_end.tried
-            give(path, text, air)
-            news(head_end, text)
+    try:
+        rest = fed(air, path, head_end, texts, fields * first.lines)
+    except BaseException:
+        # the threads wait for its end
+        air.kill()
+        raise
     for thread in threads:
         thread.join()
     status = air.wait()

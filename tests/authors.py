@@ -307,8 +307,11 @@ def random_file(rng):
     return file.text, due, service
 
 
-def run(program, *words):
-    return subprocess.run([program, *words], capture_output=True, encoding="utf-8", timeout=120)
+def run(program, status, *words):
+    """What a command says. It ends with this status, and writes nothing to standard error."""
+    ran = subprocess.run([program, *words], capture_output=True, encoding="utf-8", timeout=120)
+    assert (ran.returncode, ran.stderr) == (status, ""), (read(words[1]), ran)
+    return ran.stdout
 
 
 def save(name, text):
@@ -323,41 +326,38 @@ def read(name):
 
 def composed(program, author, out):
     """The service text of an author's text without mistakes."""
-    ran = run(program, "compose", author, out)
-    assert ran.returncode == 0 and not ran.stderr, (read(author), ran)
+    said = run(program, 0, "compose", author, out)
     text = read(out)
     service = tomllib.loads(text)
-    assert ran.stdout == f"composed {len(service.get('page', []))} pages\n", (ran.stdout, text)
+    assert said == f"composed {len(service.get('page', []))} pages\n", (said, text)
     return text, service
 
 
 def check_back(program, service_text, service):
     """Decomposed and composed again, a service text is the same service."""
-    ran = run(program, "decompose", service_text, "back.toml")
-    assert ran.returncode == 0 and ran.stdout == f"decomposed {len(service['page'])} pages\n", (read(service_text), ran)
+    said = run(program, 0, "decompose", service_text, "back.toml")
+    assert said == f"decomposed {len(service['page'])} pages\n", (read(service_text), said)
     assert composed(program, "back.toml", "again.toml")[1] == service, (read(service_text), read("back.toml"))
 
 
-def check_warnings(program):
+def check_warnings(program, pages):
     """`check` warns of an author's text as of the service text, but not of codes: what the author wrote is what viewers see."""
-    short = [line.removeprefix("warning ") for line in run(program, "check", "out.toml").stdout.split("\n")[:-1]]
-    wanted = [line for line in short if " is shown as " not in line and " is an escape only " not in line]
-    ran = run(program, "check", "desk.toml")
-    lines = ran.stdout.split("\n")[:-1]
-    assert ran.returncode == 0 and not ran.stderr, ran
-    if wanted and not wanted[0].startswith("ok "):
-        assert lines.pop() == f"0 errors, {len(wanted)} warning" + "s" * (len(wanted) != 1), ran
+    good = f"ok pages {pages}"
+    short = [line.removeprefix("warning ") for line in run(program, 0, "check", "out.toml").split("\n")[:-1]]
+    assert short, read("out.toml")
+    wanted = [line for line in short if line != good and " is shown as " not in line and " is an escape only " not in line]
+    lines = run(program, 0, "check", "desk.toml").split("\n")[:-1]
+    if wanted:
+        assert lines.pop() == f"0 errors, {len(wanted)} warning" + "s" * (len(wanted) != 1), (read("desk.toml"), lines)
         lines = [re.fullmatch(r"desk\.toml:\d+:\d+: warning: (.*)", line)[1] for line in lines]
         assert lines == wanted, (read("desk.toml"), lines, wanted)
     else:
-        assert len(lines) == 1 and lines[0].startswith("ok pages "), (read("desk.toml"), lines)
+        assert lines == [good], (read("desk.toml"), lines)
 
 
 def check_mistakes(program, told):
     """`check` tells all mistakes of `compose`, and what else is wrong."""
-    ran = run(program, "check", "desk.toml")
-    lines = ran.stdout.split("\n")[:-1]
-    assert ran.returncode == 2 and not ran.stderr, ran
+    lines = run(program, 2, "check", "desk.toml").split("\n")[:-1]
     assert lines[:len(told)] == told, (read("desk.toml"), lines, told)
     last = re.fullmatch(r"(\d+) errors?, (\d+) warnings?(; the first 100 are shown)?", lines[-1])
     assert last and (last[3] or len(lines) == 1 + int(last[1]) + int(last[2])), lines
@@ -374,13 +374,12 @@ def check_text(program, rng, kinds):
         for number, before in enumerate(told.split("[[page]]")[:-1], 100):
             assert before.endswith(f"# page {number}\n"), before
         check_back(program, "out.toml", service)
-        check_warnings(program)
+        check_warnings(program, len(service["page"]))
         kinds["composed"] += 1
         return
-    ran = run(program, "compose", "desk.toml", "out.toml")
-    lines = ran.stdout.split("\n")[:-1]
+    lines = run(program, 1, "compose", "desk.toml", "out.toml").split("\n")[:-1]
     count = len(due)
-    assert ran.returncode == 1 and not ran.stderr and read("out.toml") == "", (text, ran)
+    assert read("out.toml") == "", (text, lines)
     assert lines.pop() == f"{count} mistake" + "s" * (count != 1), (text, lines, due)
     assert len(lines) == min(count, 100), (text, lines)
     for line, (at, words) in zip(lines, due):
@@ -402,8 +401,8 @@ def check_row(program, option, text, kinds):
     else:
         _, place, why = wanted.split()
         column = 6 + len(text[:int(place)].replace("\\", "\\\\").replace('"', '\\"'))
-        ran = run(program, "compose", "row.toml", "out.toml")
-        assert ran.returncode == 1 and ran.stdout.startswith(f"row.toml:8:{column}: error: ") and WORDS[why] in ran.stdout, (text, option, ran, wanted)
+        said = run(program, 1, "compose", "row.toml", "out.toml")
+        assert said.startswith(f"row.toml:8:{column}: error: ") and WORDS[why] in said, (text, option, said, wanted)
         kinds["rows refused"] += 1
 
 
@@ -415,8 +414,8 @@ def check_codes(program, rng):
     option = rng.randrange(8)
     quoted = "".join(f"\\u{code:04X}" for code in row)
     save("codes.toml", f'lines = 2\nserial = true\n[[page]]\nnumber = "100"\noption = {option}\n[page.rows]\n1 = "{quoted}"\n')
-    ran = run(program, "decompose", "codes.toml", "back.toml")
-    assert ran.returncode == 0 and ran.stdout == "decomposed 1 pages\n", (row, ran)
+    said = run(program, 0, "decompose", "codes.toml", "back.toml")
+    assert said == "decomposed 1 pages\n", (row, said)
     text = tomllib.loads(read("back.toml"))["page"][0]["rows"]["1"]
     assert codes(text, option) == "ok " + row.ljust(40).hex(), (row, option, text)
     assert composed(program, "back.toml", "again.toml")[1]["page"][0]["rows"]["1"].encode("ascii") == row, (row, text)

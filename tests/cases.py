@@ -3,19 +3,21 @@
 
 usage: cases.py PROGRAM [NAME..]
 
-tests/cases/COMMAND.toml has a table for each case. Given names, such as certify or certify/bad-slot, only those cases run. The keys of a case:
+tests/cases/COMMAND.toml has a table for each case. Given names, such as certify or certify/bad-slot, only those cases run; without names, each
+command that `ttx --help` lists must have cases. The keys of a case:
 
     run           the words after the program's name, split as a shell does; \\xHH in a word is a byte
     data          files of tests/data in the folder `in`, in which the program runs; without this key, those that `run` names
     padded        NAME = [FROM, SIZE]: the file NAME has the bytes of FROM of tests/data, and then # up to SIZE bytes
     repeated      NAME = [FROM, SIZE]: the same, with FROM again and again
+    texts         NAME = TEXT: the file NAME has this text
     stdin         the file of tests/data that is standard input; without this key there is nothing to read
     status        the exit status; without this key 0
     stdout        what the program prints, byte for byte; without this key nothing. stdout-file names a file of tests/cases/expected
     stderr        the same of standard error, with stderr-file
     stdout-to     where standard output goes in place of a file: a device, closed-pipe, or closed for no stream at all
     stderr-to     the same of standard error
-    out           NAME = WANTED: the file NAME afterwards, as a file of tests/data
+    out           NAME = WANTED: the file NAME afterwards, as a file of tests/data, or else of tests/cases/expected
     absent        files that must not be there afterwards
 """
 import concurrent.futures
@@ -28,9 +30,11 @@ import tempfile
 import tomllib
 
 TESTS = os.path.dirname(os.path.abspath(__file__))
-KEYS = {"run", "data", "padded", "repeated", "stdin", "status", "stdout", "stdout-file", "stderr", "stderr-file", "stdout-to", "stderr-to",
-        "out", "absent"}
+KEYS = {"run", "data", "padded", "repeated", "texts", "stdin", "status", "stdout", "stdout-file", "stderr", "stderr-file", "stdout-to",
+        "stderr-to", "out", "absent"}
 SECONDS = 120
+# the table of words that name no command
+NO_COMMAND = "words"
 
 
 def content(*path):
@@ -51,6 +55,12 @@ def wanted(case, stream):
     return case.get(stream, "").encode()
 
 
+def wanted_file(name):
+    """The content of a file that the program must write."""
+    is_data = os.path.exists(os.path.join(TESTS, "data", name))
+    return content("data", name) if is_data else content("cases", "expected", name)
+
+
 def lay_out(case, folder):
     """Puts the files of the case into the folder."""
     named = [name for name in dict.fromkeys(shlex.split(case.get("run", ""))) if os.path.isfile(os.path.join(TESTS, "data", name))]
@@ -60,6 +70,7 @@ def lay_out(case, folder):
     for name, (source, size) in case.get("repeated", {}).items():
         part = content("data", source)
         files[name] = (part * (size // len(part) + 1))[:size]
+    files |= {name: text.encode() for name, text in case.get("texts", {}).items()}
     for name, data in files.items():
         with open(os.path.join(folder, name), "wb") as file:
             file.write(data)
@@ -109,7 +120,7 @@ def differences(program, case):
                 yield f"{stream}: {written[:300]!r}"
         for name, source in case.get("out", {}).items():
             path = os.path.join(folder, name)
-            if not os.path.exists(path) or open(path, "rb").read() != content("data", source):
+            if not os.path.exists(path) or open(path, "rb").read() != wanted_file(source):
                 yield f"{name} isn't {source}"
         for name in case.get("absent", []):
             if os.path.exists(os.path.join(folder, name)):
@@ -118,8 +129,8 @@ def differences(program, case):
         twice = words[:1] == [b"certify"] and not {b"--late", b"--within", b"--all", b"--twice"} & set(words) and not {"stdin", "stdout-to", "stderr-to"} & case.keys()
         if twice and case.get("status", 0) < 2:
             status, results = run(program, case, words + [b"--twice"], folder)
-            if (status, results["stdout"]) != (case.get("status", 0), wanted(case, "stdout")):
-                yield f"with --twice: status {status}, {results['stdout'][:300]!r}"
+            if (status, results) != (case.get("status", 0), {stream: wanted(case, stream) for stream in results}):
+                yield f"with --twice: status {status}, {results['stdout'][:300]!r}, stderr {results['stderr'][:300]!r}"
 
 
 def tables():
@@ -139,7 +150,22 @@ def tables():
 def unused(cases):
     """The files of tests/cases/expected that no case names."""
     named = {case[key] for case in cases.values() for key in ("stdout-file", "stderr-file") if key in case}
+    named |= {source for case in cases.values() for source in case.get("out", {}).values()}
     return sorted(set(os.listdir(os.path.join(TESTS, "cases", "expected"))) - named)
+
+
+def commands(program):
+    """The commands that `ttx --help` lists."""
+    told = subprocess.run([program, "--help"], capture_output=True, text=True, timeout=SECONDS, check=False).stdout
+    listed = re.findall(r"^  ([a-z]+) {2,}\S", told.partition("\nOptions:\n")[0], re.M)
+    if not listed:
+        sys.exit(f"{program} --help lists no commands")
+    return listed
+
+
+def missing(program, cases):
+    """The commands, and the table of words that name none, of which there are no cases."""
+    return sorted({*commands(program), NO_COMMAND} - {name.split("/")[0] for name in cases})
 
 
 def main():
@@ -158,6 +184,9 @@ def main():
     for name in unused(cases):
         print(f"FAILED expected/{name}: no case names it")
         failed.append(f"expected/{name}")
+    for name in [] if sys.argv[2:] else missing(program, cases):
+        print(f"FAILED {name}: there are no cases")
+        failed.append(name)
     print(f"cases: {len(chosen)} cases, {len(failed)} failed" + "".join(f" {name}" for name in failed))
     sys.exit(bool(failed) or not chosen)
 

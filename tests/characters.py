@@ -35,7 +35,9 @@ def previewed(program, option):
     with tempfile.NamedTemporaryFile("w", suffix=".toml") as file:
         file.write(service)
         file.flush()
-        ran = subprocess.run([program, "preview", file.name, "100", "--as", "text"], stdout=subprocess.PIPE, check=True)
+        ran = subprocess.run([program, "preview", file.name, "100", "--as", "text"], capture_output=True, check=False)
+    if ran.returncode or ran.stderr:
+        sys.exit(f"FAILED option {option}: status {ran.returncode}, {ran.stderr!r}")
     lines = ran.stdout.decode().split("\n")
     # the text form leaves out spaces at the end of a row
     return list("".join(line.ljust(32) for line in lines[1:4]))

@@ -61,8 +61,8 @@ def wrong_texts(folder, words):
     for text in [first, *(first[:first.index("[page.rows]")] + other for other in others)]:
         (folder / "authored.toml").write_text(text)
         done = run("ttx compose authored.toml composed.toml", folder, words)
-        if done.stdout != "composed 1 pages\n":
-            yield f"AUTHORS.md: {done.stdout}{done.stderr}"
+        if (done.returncode, done.stdout, done.stderr) != (0, "composed 1 pages\n", ""):
+            yield f"AUTHORS.md: status {done.returncode}, {done.stdout}{done.stderr}"
 
 
 def wrong_fences(document):
@@ -73,12 +73,13 @@ def wrong_fences(document):
 
 
 def made(folder, program):
-    """The files and programs that the examples name; desk.toml is the first page of docs/AUTHORS.md."""
+    """The files and programs that the examples name; desk.toml is the first page of docs/AUTHORS.md. The file `statuses` tells how each ttx ends."""
     programs = folder / "bin"
     programs.mkdir()
-    (programs / "ttx").symlink_to(program)
+    (programs / "ttx").write_text(f'#!/bin/sh\n"{program}" "$@"\nstatus=$?\necho $status >> "{folder}/statuses"\nexit $status\n')
     (programs / "sender").write_text("#!/bin/sh\ncat > /dev/null\n")
-    (programs / "sender").chmod(0o755)
+    for file in programs.iterdir():
+        file.chmod(0o755)
     for file in (TOP / "tests/data").iterdir():
         shutil.copy(file, folder)
     shutil.copy(TOP / "examples/broadcast.toml", folder)
@@ -379,7 +380,7 @@ def waits_of_full_pages(count, often, option, folder, words):
     (folder / "full.toml").write_text(f"lines = 12\nserial = true\n{pages}")
     done = run(f"ttx plan full.toml full.t42 {option} && ttx wait full.t42 full.toml", folder, words)
     found = re.findall(r"^(?:100/0000|all) \d+ fields ([\d.]+) s", done.stdout, re.M)
-    return found if len(found) == 2 else [done.stderr, done.stderr]
+    return found if len(found) == 2 and not done.returncode and not done.stderr else [f"status {done.returncode} {done.stderr}"] * 2
 
 
 def wrong_waits(folder, words):
@@ -400,6 +401,11 @@ def help_texts():
     return {file.stem.removeprefix("help-"): file.read_text() for file in (TOP / "tests/cases/expected").glob("help-*.txt")}
 
 
+def is_odd(command, lines, status):
+    """Whether an example has an odd status: a no has status 1, and a mistake that check reports has status 2, and both print a line."""
+    return status not in (0, 1, 2) or (status > 0 and not lines) or (status == 2 and "check" not in command)
+
+
 def failed_examples(documents, program):
     """How many examples there are, and what is wrong with them."""
     count, faults = 0, []
@@ -412,12 +418,13 @@ def failed_examples(documents, program):
         for document in documents:
             for command, lines in examples(document.read_text()):
                 count += 1
+                (folder / "statuses").write_text("")
                 done = run(command, folder, words)
                 printed = (done.stdout + done.stderr).splitlines()
-                # a no has status 1, and a mistake that check reports has status 2: both print a line
-                is_odd = done.returncode > 2 or (done.returncode and not lines) or (done.returncode == 2 and "check" not in command)
-                if printed != lines or is_odd:
-                    faults.append(f"{command}: status {done.returncode}, it prints {printed[:3]}, and {document.name} has {lines[:3]}")
+                # that of each ttx in a pipe too
+                statuses = [done.returncode, *map(int, (folder / "statuses").read_text().split())]
+                if printed != lines or any(is_odd(command, lines, status) for status in statuses):
+                    faults.append(f"{command}: status {statuses}, it prints {printed[:3]}, and {document.name} has {lines[:3]}")
         faults += [*wrong_waits(folder, words), *wrong_texts(folder, words)]
     return count, faults
 

@@ -67,42 +67,49 @@ def lines_of(text):
 
 
 class Place:
-    """Runs of the program in a folder."""
+    """Runs of the program in a folder, for the service with this title."""
 
     def __init__(self, program, folder):
-        self.program, self.folder, self.runs = program, folder, 0
+        self.program, self.folder, self.title = program, folder, ""
 
-    def run(self, *words):
-        self.runs += 1
+    def answer(self, *words):
+        """The status of a command, and what it writes to both streams."""
         done = subprocess.run([self.program, *words], cwd=self.folder, capture_output=True, timeout=60, check=False)
         return done.returncode, done.stdout.decode(), done.stderr.decode()
 
+    def run(self, *words):
+        """What a command says. A status other than 0 or an error ends the test."""
+        status, text, errors = self.answer(*words)
+        if status or errors:
+            sys.exit(f"FAILED {self.title}: {' '.join(words)}: status {status}, {text[:200]!r} {errors!r}")
+        return text
+
     def extract(self, lines):
-        """The line that `extract` prints for the cycle, and the text."""
-        told = self.run("extract", "cycle", "extracted", "--lines", str(lines))
+        """The answer of `extract` for the cycle, and the text."""
+        told = self.answer("extract", "cycle", "extracted", "--lines", str(lines))
         return told, (self.folder / "extracted").read_text()
 
 
 def wrong(place, text, way, draw):
     """What is wrong with the result for a service, or None."""
     (place.folder / "service").write_text(text)
-    told = place.run("plan", "service", "cycle", *way)
-    if told[0] != 0:
-        return f"plan: {told}"
+    place.run("plan", "service", "cycle", *way)
     wanted = said(text)
+    answer = 0, f"extracted {len(wanted['pages'])} pages\n", ""
     told, back = place.extract(wanted["lines"])
-    if told != (0, f"extracted {len(wanted['pages'])} pages\n", "") or said(back) != wanted:
+    if told != answer or said(back) != wanted:
         return f"extract: {told}"
     kind = way if "--class" in way else []
     found = [place.run("find", "cycle", name, "cert", *kind) for name in ("service", "extracted")]
-    if found[0] != found[1] or found[0][0] != 0:
+    if found[0] != found[1]:
         return f"find: {found}"
     for number, sub in draw.sample(sorted(wanted["pages"]), min(2, len(wanted["pages"]))):
         views = [place.run("preview", name, f"{number}/{sub}", "--as", "ansi", "--reveal") for name in ("service", "extracted")]
-        if views[0] != views[1] or views[0][0] != 0:
+        if views[0] != views[1]:
             return f"preview of {number}/{sub}"
-    told = place.run("plan", "extracted", "cycle", *way)
-    if told[0] != 0 or said(place.extract(wanted["lines"])[1]) != wanted:
+    place.run("plan", "extracted", "cycle", *way)
+    told, back = place.extract(wanted["lines"])
+    if told != answer or said(back) != wanted:
         return f"extract of the plan of what came back: {told}"
     return None
 
@@ -199,7 +206,7 @@ def main():
     with tempfile.TemporaryDirectory() as folder:
         place = Place(program, Path(folder))
         for at, (title, text) in enumerate(services(int(sys.argv[2]) if len(sys.argv) > 2 else 200)):
-            draw = random.Random(at)
+            draw, place.title = random.Random(at), title
             ways = WAYS if at < 10 else [WAYS[at % 3]]
             told = [(" ".join([title, *way]), wrong(place, text, way, draw)) for way in ways]
             place.run("plan", "service", "cycle")

@@ -190,11 +190,12 @@ def differences(program, command, case):
             cases.lay_out(case, folder)
             runs.append(cases.run(program, case, bare + more, folder))
     (status, plain), (json_status, written) = runs
-    if status != json_status:
+    if not status == json_status == case.get("status", 0):
         return [f"status {json_status} with --json, {status} without"]
     # a usage line names the options that are given
-    if plain["stderr"].split(b"\n\nUsage: ")[0] != written["stderr"].split(b"\n\nUsage: ")[0]:
-        return [f"stderr {written['stderr']!r}"]
+    errors = {text.split(b"\n\nUsage: ")[0] for text in (plain["stderr"], written["stderr"], cases.wanted(case, "stderr"))}
+    if len(errors) > 1:
+        return [f"stderr {written['stderr']!r} with --json, {plain['stderr']!r} without"]
     try:
         told = [json.loads(line) for line in written["stdout"].decode().split("\n")[:-1]]
     except ValueError as error:

@@ -21,7 +21,8 @@ from pathlib import Path
 
 import plain_receiver
 from plain_receiver import Receiver, packet_in, store
-from spread import bound, numbers_of, parallel, places, run, serial
+from planned import answer, run, wrong_in
+from spread import bound, numbers_of, parallel, places, serial
 
 plain_receiver.packet_in = functools.cache(packet_in)
 packet = plain_receiver.packet_in
@@ -295,10 +296,12 @@ def compare(program, draw, way, tally):
                 page["stays"] = draw.choice([1, 20, 100, 200, *[draw.randint(1, 400)] * 4, 4000])
     Path("service.toml").write_text(text_of(pages, service))
     Path("cycle.t42").unlink(missing_ok=True)
-    status, said = run(program, "plan", "service.toml", "cycle.t42", *WAYS[way])
-    if status == 1:
+    status, said = answer(program, "plan", "service.toml", "cycle.t42", *WAYS[way])
+    if status == 1 and said:
         tally["too short"] += 1
         return wrong_refusal(draw, pages, service, said)
+    if status:
+        return f"plan: status {status}, {said!r}"
     data = Path("cycle.t42").read_bytes()
     cycle = [data[at : at + 42] for at in range(0, len(data), 42)]
     found = headers_of(cycle)
@@ -311,12 +314,11 @@ def compare(program, draw, way, tally):
 
 
 def wrong_numbers(program, draw, cycle, headers, pages, several, lines, tally):
-    status, said = run(program, "find", "cycle.t42", "service.toml", "found.cert")
-    deadline = int(said.split()[2])
-    status, said = run(program, "certify", "cycle.t42", "service.toml", "found.cert", "--late", "--numbers")
+    deadline = int(run(program, "find", "cycle.t42", "service.toml", "found.cert").split()[2])
+    said = run(program, "certify", "cycle.t42", "service.toml", "found.cert", "--late", "--numbers")
     verdict, *lines_said = said.splitlines()
-    gap = int(verdict.split()[-1]) if status == 0 else 0
-    waits = run(program, "wait", "cycle.t42", "service.toml", "--numbers")[1].splitlines()[len(pages) + 1 :]
+    gap = int(verdict.split()[-1])
+    waits = run(program, "wait", "cycle.t42", "service.toml", "--numbers").splitlines()[len(pages) + 1 :]
     firsts = list(dict.fromkeys(number_of(page) for page in pages if number_of(page) in several))
     wanted, wanted_waits, every = [], [], deadline * lines + gap
     for number in firsts:
@@ -324,7 +326,7 @@ def wrong_numbers(program, draw, cycle, headers, pages, several, lines, tally):
         count = sum(number_of(page) == number for page in pages)
         for line, lines_of in zip(said_of(lines, number, stays, again, every), (wanted, wanted_waits)):
             lines_of.append(line.format(count))
-    if (status, lines_said, waits) != (0, wanted, wanted_waits):
+    if (lines_said, waits) != (wanted, wanted_waits):
         return f"{said} {waits} in place of {wanted} {wanted_waits}"
     tally["numbers"] += len(firsts)
     for number in firsts:
@@ -343,7 +345,7 @@ def main():
     with tempfile.TemporaryDirectory() as folder:
         os.chdir(folder)
         for number in range(services):
-            wrong = compare(program, random.Random(number), number % len(WAYS), tally)
+            wrong = wrong_in(compare, program, random.Random(number), number % len(WAYS), tally)
             if wrong:
                 failed += 1
                 print(f"FAILED service {number} {' '.join(WAYS[number % len(WAYS)])}: {wrong}")

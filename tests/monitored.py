@@ -329,7 +329,7 @@ def damaged(draw, cycle, ids, start, count, repeat):
 
 
 def told(program, feed, rest, named, piped, more=()):
-    """The status and the text of the program."""
+    """The status and the text of the program, and what it writes to standard error."""
     data = b"".join(feed) + bytes(rest)
     with open("feed", "wb") as file:
         file.write(data)
@@ -337,7 +337,16 @@ def told(program, feed, rest, named, piped, more=()):
     words += [] if named is None else ["--start", str(named)]
     words += more
     done = subprocess.run(words, input=data if piped else b"", capture_output=True, timeout=60, check=False)
-    return done.returncode, done.stdout.decode() + done.stderr.decode()
+    return done.returncode, done.stdout.decode(), done.stderr.decode()
+
+
+def run(program, *words):
+    """What a command writes. A status other than 0 or an error ends the test."""
+    done = subprocess.run([program, *words], capture_output=True, timeout=60, check=False)
+    if done.returncode or done.stderr:
+        with open("service", encoding="utf-8") as file:
+            sys.exit(f"FAILED {' '.join(words)}: status {done.returncode}, {done.stderr!r}, of the service\n{file.read()}")
+    return done.stdout
 
 
 def plan(program, draw):
@@ -347,8 +356,8 @@ def plan(program, draw):
         repeat = draw.choice([1, 2, 2, 3])
         with open("service", "w", encoding="utf-8") as file:
             file.write(text)
-        for words in (["plan", "service", "cycle"], ["find", "cycle", "service", "cert", "--repeat", str(repeat)]):
-            subprocess.run([program, *words], capture_output=True, timeout=60, check=True)
+        run(program, "plan", "service", "cycle")
+        run(program, "find", "cycle", "service", "cert", "--repeat", str(repeat))
         with open("cycle", "rb") as file:
             cycle = Cycle(file.read())
         if len(cycle) <= 200:
@@ -359,11 +368,34 @@ def sends(program, draw):
     """What `monitor` says of a sent cycle, from some slot on, and what it should say."""
     cycle, _, _, lines = plan(program, draw)
     fields, cut = draw.randint(1, 3 * len(cycle) // lines + 2), draw.randrange(2 * len(cycle))
-    words = [program, "send", "cycle", "--fields", str(fields), "--lines", str(lines), "--at", "46000/123045"]
-    sent = subprocess.run(words, capture_output=True, timeout=60, check=True).stdout
+    sent = run(program, "send", "cycle", "--fields", str(fields), "--lines", str(lines), "--at", "46000/123045")
     feed = [sent[i:i + 42] for i in range(0, len(sent), 42)][cut:]
     got = told(program, feed, 0, cut % len(cycle), draw.random() < 0.5)
-    return got, (0, f"yes start {cut % len(cycle)} slots {len(feed)} wrong 0 streak 0\n")
+    return got, (0, f"yes start {cut % len(cycle)} slots {len(feed)} wrong 0 streak 0\n", "")
+
+
+def failure(program, draw, planned, start):
+    """What is wrong with the verdict on a feed that begins with this slot of a planned cycle, or None."""
+    cycle, ids, repeat, lines = planned
+    most = 3 * len(cycle)
+    slots = draw.choice([0, 1, draw.randint(2, len(cycle)), draw.randint(len(cycle), most), draw.randint(len(cycle), most)])
+    feed = damaged(draw, cycle, ids, start, slots, repeat)
+    named = draw.choice([None, None, start, start + len(cycle), draw.randrange(65536)])
+    rest = draw.choice([0, 0, 1, 41])
+    tell_all, every = draw.choice([(False, None)] * 3 + [(True, None), (True, draw.randint(1, 60)), (False, draw.randint(1, 60))])
+    by_rows = not tell_all and every is None and draw.random() < 0.5
+    more = (["--rows"] if by_rows else []) + (["--all"] if tell_all else []) + ([] if every is None else ["--every", str(every)])
+    if tell_all:
+        for n in draw.sample(range(len(feed)), min(len(feed), draw.choice([0, 1, 5]))):
+            feed[n] = EMPTY
+    if by_rows:
+        status, text = verdict_by_rows(cycle, ids, repeat, feed, rest, named)
+    elif more:
+        status, text = reported(cycle, ids, repeat, feed, rest, named, lines, every, tell_all)
+    else:
+        status, text = verdict(cycle, ids, repeat, feed, rest, named)
+    got = told(program, feed, rest, named, draw.random() < 0.5, more)
+    return None if got == (status, text, "") else f"start {start}, named {named}, {more}: {got}, not {status} {text!r}"
 
 
 def main():
@@ -374,38 +406,21 @@ def main():
     with tempfile.TemporaryDirectory() as folder:
         os.chdir(folder)
         while made < count:
-            cycle, ids, repeat, lines = plan(program, draw)
+            planned = plan(program, draw)
+            period = len(planned[0])
             # of the first service, a feed from every slot on
-            starts = range(len(cycle)) if made == 0 else [draw.randrange(len(cycle)) for _ in range(10)]
-            for start in starts:
-                most = 3 * len(cycle)
-                slots = draw.choice([0, 1, draw.randint(2, len(cycle)), draw.randint(len(cycle), most), draw.randint(len(cycle), most)])
-                feed = damaged(draw, cycle, ids, start, slots, repeat)
-                named = draw.choice([None, None, start, start + len(cycle), draw.randrange(65536)])
-                rest = draw.choice([0, 0, 1, 41])
-                tell_all, every = draw.choice([(False, None)] * 3 + [(True, None), (True, draw.randint(1, 60)), (False, draw.randint(1, 60))])
-                by_rows = not tell_all and every is None and draw.random() < 0.5
-                more = (["--rows"] if by_rows else []) + (["--all"] if tell_all else []) + ([] if every is None else ["--every", str(every)])
-                if tell_all:
-                    for n in draw.sample(range(len(feed)), min(len(feed), draw.choice([0, 1, 5]))):
-                        feed[n] = EMPTY
-                if by_rows:
-                    wanted = verdict_by_rows(cycle, ids, repeat, feed, rest, named)
-                elif more:
-                    wanted = reported(cycle, ids, repeat, feed, rest, named, lines, every, tell_all)
-                else:
-                    wanted = verdict(cycle, ids, repeat, feed, rest, named)
-                got = told(program, feed, rest, named, draw.random() < 0.5, more)
+            for start in range(period) if made == 0 else [draw.randrange(period) for _ in range(10)]:
+                why = failure(program, draw, planned, start)
                 made += 1
-                if got != wanted:
+                if why:
                     failed += 1
-                    print(f"feed {made}, start {start}, named {named}, {more}: {got}, not {wanted}")
+                    print(f"FAILED feed {made}: {why}")
         for _ in range(30):
             got, wanted = sends(program, draw)
             made += 1
             if got != wanted:
                 failed += 1
-                print(f"sent feed: {got}, not {wanted}")
+                print(f"FAILED sent feed {made}: {got}, not {wanted}")
     print(f"monitored: {made} feeds, {failed} failed")
     return 1 if failed else 0
 

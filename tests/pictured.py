@@ -223,6 +223,15 @@ def run(program, *words):
     return done.returncode, done.stdout, done.stderr
 
 
+def answer(program, seed, beginnings, *words):
+    """The status of a command for a case, and its line, which begins in one way with status 0 and in another one with status 1. Anything else ends
+    the test."""
+    status, line, errors = run(program, *words)
+    if status not in (0, 1) or errors or not line.startswith(beginnings[status]):
+        sys.exit(f"FAILED case {seed}: {words[0]} says {status} {line!r} {errors!r}")
+    return status, line
+
+
 def replay_fails(program, names, cycle, page):
     """What is wrong with the pictures of a counter-run, and what there is to say of it."""
     counter = read_counter(Path(names[2]).read_text())
@@ -245,12 +254,13 @@ def found_case(program, folder, seed):
     (folder / "cycle.t42").write_bytes(b"".join(cycle))
     (folder / "service.toml").write_text(text)
     names = [str(folder / name) for name in ("cycle.t42", "service.toml", "found.cert", "counter")]
-    status, line, _ = run(program, "find", *names[:3], "--repeat", str(repeat))
+    status, line = answer(program, seed, ("found deadline ", "no "), "find", *names[:3], "--repeat", str(repeat))
     deadline = int(line.split()[-1]) - 1 if status == 0 else 30
     if deadline == 0:
         return None
     Path(names[2]).write_text(certificate(lines, repeat, deadline))
-    if run(program, "refute", *names[:3], "--save", names[3])[0] != 1:
+    status, _ = answer(program, seed, ("none\n", "counter "), "refute", *names[:3], "--save", names[3])
+    if status == 0:
         return None
     page = pages[read_counter(Path(names[3]).read_text())["page"][0]]
     return [*names[:2], names[3]], cycle, page

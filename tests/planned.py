@@ -49,15 +49,37 @@ def service(draw, magazines, serial, info):
     return text
 
 
-def run(program, *words):
+class Failed(Exception):
+    """A command that ends in another way than it should."""
+
+
+def answer(program, *words):
+    """The status and the output of a command. It fails with anything on standard error."""
     done = subprocess.run([program, *words], capture_output=True, text=True, timeout=60, check=False)
+    if done.stderr:
+        raise Failed(f"{' '.join(words)}: status {done.returncode}, {done.stdout[:200]!r} {done.stderr[:200]!r}")
     return done.returncode, done.stdout
+
+
+def run(program, *words, status=0):
+    """The output of a command. It fails with another status too."""
+    ended, text = answer(program, *words)
+    if ended != status:
+        raise Failed(f"{' '.join(words)}: status {ended}, {text[:200]!r}")
+    return text
+
+
+def wrong_in(check, *words):
+    """What a check says is wrong in a case, or the command that fails in it; None if nothing is wrong."""
+    try:
+        return check(*words)
+    except Failed as failed:
+        return str(failed)
 
 
 def wait_lines(program, *words):
     """For each page the fields and item that `wait` prints; with `--items` also the fields of its items, in order."""
-    status, text = run(program, "wait", "cycle", "service", *words, "--items")
-    assert status == 0, text
+    text = run(program, "wait", "cycle", "service", *words, "--items")
     pages, items = {}, {}
     for line in text.splitlines()[:-1]:
         page, told = line.split(" ", 1)
@@ -81,13 +103,13 @@ def wrong_items(program, kind, repeat):
 
 def wrong(program, kind, repeat):
     """What is wrong with the certificate found for a planned cycle, or None."""
-    status, line = run(program, "find", "cycle", "service", "cert", "--repeat", str(repeat), "--class", kind)
-    if status != 0 or not line.startswith("found deadline "):
-        return f"find: {status} {line}"
+    line = run(program, "find", "cycle", "service", "cert", "--repeat", str(repeat), "--class", kind)
+    if not line.startswith("found deadline "):
+        return f"find: {line}"
     deadline = int(line.split()[2])
-    status, line = run(program, "certify", "cycle", "service", "cert")
-    if status != 0 or not line.startswith("yes ") or f" deadline {deadline} " not in line:
-        return f"certify: {status} {line}"
+    line = run(program, "certify", "cycle", "service", "cert")
+    if not line.startswith("yes ") or f" deadline {deadline} " not in line:
+        return f"certify: {line}"
     what = wrong_items(program, kind, repeat)
     if what or deadline == 1:
         return what
@@ -95,16 +117,22 @@ def wrong(program, kind, repeat):
         text = file.read()
     with open("less", "w", encoding="ascii") as file:
         file.write(text.replace(f"\ndeadline {deadline}\n", f"\ndeadline {deadline - 1}\n", 1))
-    status, line = run(program, "certify", "cycle", "service", "less")
-    return None if status == 1 and line.startswith("no ") else f"certify with a field less: {status} {line}"
+    line = run(program, "certify", "cycle", "service", "less", status=1)
+    return None if line.startswith("no ") else f"certify with a field less: {line}"
+
+
+def wrong_plan(program, kind):
+    """What is wrong with what `plan` says for a class, or None."""
+    line = run(program, "plan", "service", "cycle", "--class", kind)
+    return None if line.startswith("planned ") else f"plan: {line}"
 
 
 def failures(program, name, kind):
     """Plans the service for a class, and checks what `find` finds for each repeat count."""
-    status, line = run(program, "plan", "service", "cycle", "--class", kind)
-    if status != 0 or not line.startswith("planned "):
-        return [f"{name}, class {kind}: plan: {status} {line}"]
-    found = [(repeat, wrong(program, kind, repeat)) for repeat in [1, 2, 8]]
+    what = wrong_in(wrong_plan, program, kind)
+    if what:
+        return [f"{name}, class {kind}: {what}"]
+    found = [(repeat, wrong_in(wrong, program, kind, repeat)) for repeat in [1, 2, 8]]
     return [f"{name}, class {kind}, repeat {repeat}: {what}" for repeat, what in found if what]
 
 
@@ -164,7 +192,7 @@ def wrong_turns(program, lines, most):
     with open("service", "w", encoding="ascii") as file:
         file.write(parallel_text(lines, most))
     run(program, "plan", "service", "cycle")
-    shown = [re.sub(r"^\d+ ", "", line) for line in run(program, "inspect", "cycle")[1].splitlines()]
+    shown = [re.sub(r"^\d+ ", "", line) for line in run(program, "inspect", "cycle").splitlines()]
     wanted = by_turns(lines, most)
     if len(shown) != len(wanted):
         return f"{len(shown)} slots and not {len(wanted)}"
@@ -187,7 +215,7 @@ def main():
                 cases += 3
                 told += failures(program, name, kind)
         for most, lines in itertools.product(range(1, 9), range(1, 4)):
-            what = wrong_turns(program, lines, most)
+            what = wrong_in(wrong_turns, program, lines, most)
             cases += 1
             told += [f"turns of {most} magazines, {lines} lines: {what}"] if what else []
         os.chdir("/")

@@ -7,14 +7,17 @@ usage: recognised.py PROGRAM [COUNT]
 The packets of the shipped example come with a framing code or with clock run-in too, from any byte of a packet on, with the bits of each byte
 in reverse order, with wrong bits, or as no teletext at all. The plain program in this script looks for the first form of whose packets four
 read behind their framing code, and half of those that are not empty, wherever of the slots of 42 bytes not one in ten does. Of packets without
-wrong bits it must find the form in which they were delivered.
+wrong bits it must find the form in which they were delivered. Where there is no such line, `monitor` must give a verdict, and the others must do
+what they do, or refuse bytes behind the last slot.
 """
 import os
 import random
+import re
 import subprocess
 import sys
 import tempfile
 
+SERVICE = os.path.join(os.path.dirname(os.path.dirname(os.path.abspath(__file__))), "examples/broadcast.toml")
 # Hamming 8/4 (EN 300 706, 8.2)
 WORDS = bytes.fromhex("1502495e6473382fd0c78c9ba1b6fdea")
 EMPTY = bytes(42)
@@ -92,46 +95,83 @@ def delivered(draw, slots):
     return data.translate(TURNED) if turned else data, form
 
 
+def run(program, words, given=b""):
+    """The status of a command, and what it writes to both streams."""
+    done = subprocess.run([program, *words], input=given, capture_output=True, timeout=60, check=False)
+    return done.returncode, done.stdout.decode(errors="replace"), done.stderr.decode(errors="replace")
+
+
+def planned_slots(program):
+    """The slots of the shipped example, which the file `cycle` has; `cert` is its certificate."""
+    for words in (["plan", SERVICE, "cycle"], ["find", "cycle", SERVICE, "cert"]):
+        status, said, errors = run(program, words)
+        if status or errors:
+            sys.exit(f"FAILED {' '.join(words)}: status {status}, {said!r} {errors!r}")
+    with open("cycle", "rb") as file:
+        cycle = file.read()
+    return [cycle[i:i + 42] for i in range(0, len(cycle), 42)]
+
+
+def is_judged(answer, report, wanted):
+    """Whether `monitor` says this line; if there is none, whether it gives a verdict on the feed, and a report ends with the same one."""
+    if wanted:
+        return answer == report == (1, wanted, "")
+    (status, said, errors), (report_status, reported, report_errors) = answer, report
+    if errors or report_errors or status not in (0, 1) or status != report_status:
+        return False
+    word = ("yes", "no")[status]
+    is_verdict = re.match(r"yes start |no slot \d|no repeat ", said) and said.startswith(word)
+    return bool(is_verdict and re.search(f"^{word} start ", reported, re.M))
+
+
+def is_told(command, answer, rest, wanted):
+    """Whether a command ends as it should, and says this line last. Bytes behind the last slot are refused; `extract` may refuse the slots too, and
+    `show` may find no page in them."""
+    status, said, errors = answer
+    before = errors.removesuffix(wanted)
+    if rest:
+        refusal = f"refused: cycle 2 truncated {rest}\n"
+    else:
+        refusal = r"(refused: .*\n)?" if command == "extract" else ""
+    is_missed = command == "show" and said == "no page 100\n"
+    ends = 1 if wanted or is_missed else 2 if before else 0
+    return errors == before + wanted and re.fullmatch(refusal, before) is not None and status == ends
+
+
+def failures(program, data, form, is_piped):
+    """What is wrong with what the commands say of these bytes."""
+    with open("feed", "wb") as file:
+        file.write(data)
+    rest = len(data) % 42
+    # a feed is judged by its whole slots
+    wanted = line(data[:len(data) - rest])
+    words = ["monitor", "cycle", SERVICE, "cert"]
+    answer = run(program, [*words, "-"], data) if is_piped else run(program, [*words, "feed"])
+    report = run(program, [*words, "feed", "--all", "--every", "1"])
+    if not is_judged(answer, report, wanted):
+        yield f"{answer} {report}, not {wanted!r}"
+    wanted = line(data)
+    if form is not None and wanted not in ("", form):
+        yield f"the plain program says {wanted!r}, not {form!r}"
+    for words in (["pages", "feed"], ["show", "feed", "100"], ["book", "feed", "out"], ["extract", "feed", "out", "--lines", "12"]):
+        status, said, errors = answer = run(program, words)
+        if not is_told(words[0], answer, rest, wanted):
+            yield f"{words[0]}: {status} {said[:80]!r} {errors!r}, not {wanted!r}"
+
+
 def main():
     program = os.path.abspath(sys.argv[1])
     count = int(sys.argv[2]) if len(sys.argv) > 2 else 200
     draw = random.Random(52)
-    top = os.path.dirname(os.path.dirname(os.path.abspath(__file__)))
     failed = 0
-
-    def told(words, given=b""):
-        done = subprocess.run([program, *words], input=given, capture_output=True, timeout=60, check=False)
-        return done.returncode, done.stdout.decode(errors="replace"), done.stderr.decode(errors="replace")
-
     with tempfile.TemporaryDirectory() as folder:
         os.chdir(folder)
-        service = f"{top}/examples/broadcast.toml"
-        told(["plan", service, "cycle"])
-        told(["find", "cycle", service, "cert"])
-        with open("cycle", "rb") as file:
-            cycle = file.read()
-        slots = [cycle[i:i + 42] for i in range(0, len(cycle), 42)]
+        slots = planned_slots(program)
         for n in range(count):
             data, form = delivered(draw, slots)
-            with open("feed", "wb") as file:
-                file.write(data)
-            # a feed is judged by its whole slots
-            wanted = line(data[:len(data) // 42 * 42])
-            status, said, _ = told(["monitor", "cycle", service, "cert", "-"], data) if n % 2 else told(["monitor", "cycle", service, "cert", "feed"])
-            every = told(["monitor", "cycle", service, "cert", "feed", "--all", "--every", "1"])
-            if (said == wanted) != (wanted != "") or (wanted and (status, said, "") != (1, wanted, "") or wanted and every != (1, wanted, "")):
+            for why in failures(program, data, form, n % 2 == 1):
                 failed += 1
-                print(f"feed {n}: {status} {said!r} {every}, not {wanted!r}")
-            wanted = line(data)
-            if form is not None and wanted not in ("", form):
-                failed += 1
-                print(f"feed {n}: the plain program says {wanted!r}, not {form!r}")
-            for words in (["pages", "feed"], ["show", "feed", "100"], ["book", "feed", "out"], ["extract", "feed", "out", "--lines", "12"]):
-                status, _, errors = told(words)
-                if errors.endswith(wanted) and ("no slots" in errors) == (wanted != "") and (status == 1 or not wanted):
-                    continue
-                failed += 1
-                print(f"{words[0]} of feed {n}: {status} {errors!r}, not {wanted!r}")
+                print(f"FAILED feed {n}: {why}")
     print(f"recognised: {count} feeds, {failed} failed")
     return 1 if failed else 0
 

@@ -2,9 +2,10 @@
 """Runs the built program while one of its calls of the C library fails: each allocation in turn, and each read and each write, in pieces of
 some bytes. Then the program must end with `fault: memory`, `fault: read` or `fault: write`, and have written only the first bytes of its
 usual output. After a failed allocation it may also do what it does otherwise, but at least one allocation of each command must end in
-`fault: memory`. A command without any allocation, read or write fails the test, except where the table below says so. `air` goes on where a
-call fails after the first packet, unless it is a write of packets, and notes it in its log. `monitor --all` and `--every` write while they read, so
-of their output the first lines are there.
+`fault: memory`. A command without any allocation, read or write fails the test, except where the table below says so; also one that ends with
+another status than the table says while no call fails, and a command of `ttx --help` that the table lacks. `air` goes on where a call fails after
+the first packet, unless it is a write of packets, and notes it in its log; `air --replay` ends with `fault: memory` then. `monitor --all` and
+`--every` write while they read, so of their output the first lines are there.
 
 usage: refused_calls.py PROGRAM
 
@@ -20,98 +21,104 @@ from concurrent.futures import ThreadPoolExecutor
 from pathlib import Path
 
 sys.dont_write_bytecode = True
+from cases import commands  # noqa: E402
 from make_data import counter  # noqa: E402
 
 TOP = Path(__file__).resolve().parent.parent
 PIECES = (1, 7, 41, 42, 43)
 
 # commands that read no file
-WITHOUT_READS = {"version"}
+WITHOUT_READS = {"version", "explain witness-bad"}
 
-# words, and whether only their allocations are made to fail
+# words, their status while no call fails, and whether only their allocations are made to fail
 COMMANDS = [
-    ("inspect small.t42", False),
-    ("plan small.toml out", False),
-    ("plan small.toml out --class clearing", False),
-    ("find small.t42 small.toml out", False),
-    ("find small.t42 small.toml out --class clearing", False),
-    ("certify small.t42 small.toml small.cert", False),
-    ("certify small.t42 small.toml early.cert", False),
-    ("certify small.t42 small.toml clearing.cert", False),
-    ("certify small.t42 small.toml small.cert --late", False),
-    ("certify small.t42 small.toml small.cert --late --numbers", False),
-    ("certify small.t42 small.toml small.cert --twice", False),
-    ("certify small.t42 small.toml early.cert --all --json", False),
-    ("refute small.t42 small.toml early.cert", False),
-    ("refute small.t42 small.toml early.cert --json", False),
-    ("refute small.t42 small.toml early.cert --save out", False),
-    ("replay small.t42 small.toml early.counter", False),
-    ("replay base.t42 base.toml base-26.counter", True),
-    ("replay base.t42 base.toml base-26.counter --as text", True),
-    ("replay base.t42 base.toml base-26.counter --as html", True),
-    ("replay turned.t42 base.toml base-26.counter", True),
-    ("preview small.toml 100", False),
-    ("preview small.toml 100 --as blocks", False),
-    ("preview small.toml --all --as ansi", False),
-    ("receive small.t42 100 --slots 12", False),
-    ("show small.t42 100 --slots 12 --as ansi", False),
-    ("wait small.t42 small.toml", False),
-    ("wait small.t42 small.toml --json", False),
-    ("wait small.t42 small.toml --repeat 8 --class clearing", False),
-    ("send small.t42 --at 61000/235959 --fields 3 --lines 2 --phase 1", False),
-    ("monitor small.t42 small.toml small.cert small.t42", False),
-    ("pages small.t42", False),
-    ("extract small.t42 out --lines 2", False),
-    ("compose desk.toml out", False),
-    ("decompose small.toml out", False),
-    ("check small.toml", False),
-    ("check check-several.toml --long", True),
-    ("check desk-errors.toml", True),
-    ("check desk-warnings.toml --long --strict", True),
-    ("check check-several.toml --json", True),
-    ("monitor small.t42 small.toml small.cert small.t42 --json", True),
-    ("monitor small.t42 small.toml small.cert small.t42 --rows --json", True),
-    ("monitor small.t42 small.toml small.cert feed.t42 --all --every 1", False),
-    ("monitor small.t42 small.toml small.cert feed.t42 --all --every 1 --json", True),
-    ("certify small.t42 small.toml small.cert --late --numbers --json", True),
-    ("certify small.t42 small.toml small.cert --twice --json", True),
-    ("wait small.t42 small.toml --items --numbers --json", True),
-    ("extract small.t42 out --lines 2 --partial", True),
-    ("extract unlike.t42 out --lines 2 --partial", True),
-    ("extract small.t42 out", True),
-    ("wait small.toml small.t42", True),
-    ("version", False),
-    ("report small.t42 small.toml small.cert out", False),
-    ("splice small.t42 small.t42 small.toml small.toml small.cert small.cert", False),
-    ("plan broadcast.toml out", True),
-    ("plan broadcast.toml out --class clearing", True),
-    ("find base.t42 base.toml out", True),
-    ("find base.t42 base.toml out --repeat 8 --class clearing", True),
-    ("find near.t42 base.toml out", True),
-    ("certify base.t42 base.toml base.cert", True),
-    ("certify base.t42 base.toml clearing-base.cert", True),
-    ("certify near.t42 base.toml base.cert", True),
-    ("splice base.t42 turned.t42 base.toml base.toml base.cert turned.cert", True),
-    ("plan often-3.toml out", True),
-    ("find cut.t42 base.toml out", True),
-    ("wait near.t42 base.toml", True),
-    ("pages base.t42", True),
-    ("book small.t42 out", True),
-    ("report base.t42 base.toml base.cert out --date 2024-02-29", True),
-    ("extract base.t42 out --lines 2", True),
-    ("extract unlike.t42 out --lines 2", True),
-    ("compose desk-mistakes.toml out", True),
-    ("decompose desk-composed.toml out", True),
-    ("check check-misspelt.toml", True),
-    ("check check-row-of-47.toml", True),
-    ("certify missing base.toml base.cert", True),
-    ("find base.t42", True),
-    ("--help", True),
-    ("air small.toml --within 1 --at 61000/235959 --fields 9", False),
-    ("air small.toml --within 1 --at 61000/235959 --fields 9 --at-once --spread --log out", True),
-    ("air desk.toml --within 1 --at 61000/235959 --fields 9", True),
-    ("air desk-mistakes.toml --within 1 --fields 9", True),
-    ("air desk-errors.toml --within 1 --fields 9", True),
+    ("inspect small.t42", 0, False),
+    ("plan small.toml out", 0, False),
+    ("plan small.toml out --class clearing", 0, False),
+    ("find small.t42 small.toml out", 0, False),
+    ("find small.t42 small.toml out --class clearing", 0, False),
+    ("certify small.t42 small.toml small.cert", 0, False),
+    ("certify small.t42 small.toml early.cert", 1, False),
+    ("certify small.t42 small.toml clearing.cert", 0, False),
+    ("certify small.t42 small.toml small.cert --late", 0, False),
+    ("certify small.t42 small.toml small.cert --late --numbers", 0, False),
+    ("certify small.t42 small.toml small.cert --twice", 0, False),
+    ("certify small.t42 small.toml early.cert --all --json", 1, False),
+    ("refute small.t42 small.toml early.cert", 1, False),
+    ("refute small.t42 small.toml early.cert --json", 1, False),
+    ("refute small.t42 small.toml early.cert --save out", 1, False),
+    ("replay small.t42 small.toml early.counter", 0, False),
+    ("replay base.t42 base.toml base-26.counter", 0, True),
+    ("replay base.t42 base.toml base-26.counter --as text", 0, True),
+    ("replay base.t42 base.toml base-26.counter --as html", 0, True),
+    ("replay turned.t42 base.toml base-26.counter", 1, True),
+    ("preview small.toml 100", 0, False),
+    ("preview small.toml 100 --as blocks", 0, False),
+    ("preview small.toml --all --as ansi", 0, False),
+    ("receive small.t42 100 --slots 12", 0, False),
+    ("show small.t42 100 --slots 12 --as ansi", 0, False),
+    ("wait small.t42 small.toml", 0, False),
+    ("wait small.t42 small.toml --json", 0, False),
+    ("wait small.t42 small.toml --repeat 8 --class clearing", 0, False),
+    ("send small.t42 --at 61000/235959 --fields 3 --lines 2 --phase 1", 0, False),
+    ("monitor small.t42 small.toml small.cert small.t42", 0, False),
+    ("pages small.t42", 0, False),
+    ("extract small.t42 out --lines 2", 0, False),
+    ("compose desk.toml out", 0, False),
+    ("decompose small.toml out", 0, False),
+    ("check small.toml", 0, False),
+    ("check check-several.toml --long", 2, True),
+    ("check desk-errors.toml", 2, True),
+    ("check desk-warnings.toml --long --strict", 1, True),
+    ("check check-several.toml --json", 2, True),
+    ("monitor small.t42 small.toml small.cert small.t42 --json", 0, True),
+    ("monitor small.t42 small.toml small.cert small.t42 --rows --json", 0, True),
+    ("monitor small.t42 small.toml small.cert feed.t42 --all --every 1", 1, False),
+    ("monitor small.t42 small.toml small.cert feed.t42 --all --every 1 --json", 1, True),
+    ("certify small.t42 small.toml small.cert --late --numbers --json", 0, True),
+    ("certify small.t42 small.toml small.cert --twice --json", 0, True),
+    ("wait small.t42 small.toml --items --numbers --json", 0, True),
+    ("extract small.t42 out --lines 2 --partial", 0, True),
+    ("extract unlike.t42 out --lines 2 --partial", 0, True),
+    ("extract small.t42 out", 1, True),
+    ("wait small.toml small.t42", 2, True),
+    ("version", 0, False),
+    ("explain witness-bad", 0, False),
+    ("explain witnes-bad", 2, True),
+    ("report small.t42 small.toml small.cert out", 0, False),
+    ("splice small.t42 small.t42 small.toml small.toml small.cert small.cert", 0, False),
+    ("plan broadcast.toml out", 0, True),
+    ("plan broadcast.toml out --class clearing", 0, True),
+    ("find base.t42 base.toml out", 0, True),
+    ("find base.t42 base.toml out --repeat 8 --class clearing", 0, True),
+    ("find near.t42 base.toml out", 1, True),
+    ("certify base.t42 base.toml base.cert", 0, True),
+    ("certify base.t42 base.toml clearing-base.cert", 0, True),
+    ("certify near.t42 base.toml base.cert", 1, True),
+    ("splice base.t42 turned.t42 base.toml base.toml base.cert turned.cert", 1, True),
+    ("plan often-3.toml out", 2, True),
+    ("find cut.t42 base.toml out", 2, True),
+    ("wait near.t42 base.toml", 1, True),
+    ("pages base.t42", 0, True),
+    ("book small.t42 out", 0, True),
+    ("report base.t42 base.toml base.cert out --date 2024-02-29", 0, True),
+    ("extract base.t42 out --lines 2", 0, True),
+    ("extract unlike.t42 out --lines 2", 2, True),
+    ("compose desk-mistakes.toml out", 1, True),
+    ("decompose desk-composed.toml out", 0, True),
+    ("check check-misspelt.toml", 0, True),
+    ("check check-row-of-47.toml", 2, True),
+    ("certify missing base.toml base.cert", 3, True),
+    ("find base.t42", 2, True),
+    ("--help", 2, True),
+    ("help plan", 2, True),
+    ("air small.toml --within 1 --at 61000/235959 --fields 9", 0, False),
+    ("air small.toml --within 1 --at 61000/235959 --fields 9 --at-once --spread --log out", 0, True),
+    ("air desk.toml --within 1 --at 61000/235959 --fields 9", 0, True),
+    ("air desk-mistakes.toml --within 1 --fields 9", 2, True),
+    ("air desk-errors.toml --within 1 --fields 9", 2, True),
+    ("air texts --replay air.log", 0, True),
+    ("air texts --replay changed.log", 0, True),
 ]
 
 
@@ -126,8 +133,9 @@ def make_inputs(folder):
     }
     for name, source in taken.items():
         shutil.copy(data / source, folder / name)
-    for name in ("base.t42", "base.toml", "base.cert", "often-3.toml", "base-26.counter", "check-misspelt.toml", "check-row-of-47.toml",
-                 "check-several.toml", "desk.toml", "desk-composed.toml", "desk-errors.toml", "desk-mistakes.toml", "desk-warnings.toml"):
+    for name in ("base.t42", "base.toml", "base.cert", "often-3.toml", "base-26.counter", "check-misspelt.toml",
+                 "check-row-of-47.toml", "check-several.toml", "desk.toml", "desk-composed.toml", "desk-errors.toml", "desk-mistakes.toml",
+                 "desk-warnings.toml"):
         shutil.copy(data / name, folder)
     shutil.copy(TOP / "examples/broadcast.toml", folder)
     head = "lines 2\nrepeat 1\ndeadline"
@@ -139,6 +147,27 @@ def make_inputs(folder):
     (folder / "early.cert").write_text(f"ttx certificate 1\n{head} 4\n100/0000 links 3\n")
     (folder / "early.counter").write_text(counter(1, 8, 4, six=" 1 1 16255" + " 0" * 15))
     (folder / "clearing.cert").write_text(f"ttx certificate 2\nclass clearing\n{head} 3\n")
+    shutil.copy(data / "air.log", folder)
+    (folder / "texts").mkdir()
+    shutil.copy(data / "base.toml", folder / "texts")
+
+
+def make_changed_log(program, folder):
+    """The log of an air on which another text takes over, and both texts."""
+    first = (folder / "small.toml").read_text()
+    texts = {"first.toml": first, "second.toml": first + "# the same once more\n"}
+    for name, text in texts.items():
+        (folder / "texts" / name).write_text(text)
+    shutil.copy(folder / "texts/first.toml", folder / "aired.toml")
+    words = "air aired.toml --within 1 --at 61000/235959 --fields 4000 --at-once --log changed.log"
+    # more packets than a pipe holds: the text is changed while they go out
+    with subprocess.Popen([program, *words.split()], cwd=folder, stdout=subprocess.PIPE, stderr=subprocess.DEVNULL) as air:
+        air.stdout.read(4200)
+        shutil.copy(folder / "texts/second.toml", folder / "next.toml")
+        os.replace(folder / "next.toml", folder / "aired.toml")
+        air.stdout.read()
+    if " changed " not in (folder / "changed.log").read_text():
+        raise SystemExit("refused_calls: no text took over on the air")
 
 
 class Runs:
@@ -180,13 +209,17 @@ class Runs:
         """Whether standard error has the beginning of what it has otherwise, and then these words."""
         return errors.endswith(words) and ample.startswith(errors.removesuffix(words))
 
+    def is_told(self, ample, answer):
+        """Whether it ended in `fault: memory`, and nothing went out."""
+        return (answer[0], answer[1], answer[3]) == (3, b"", b"") and self.is_cut_by(ample[2], answer[2], b"fault: memory\n")
+
     def refuse_growths(self):
         """How many allocations there are, and how many of them end in `fault: memory` when they fail."""
         ample, (growths, _, _) = self.counted()
         told = 0
         for n in range(1, growths + 2):
             answer = self.run(growth=n)
-            is_told = (answer[0], answer[1], answer[3]) == (3, b"", b"") and self.is_cut_by(ample[2], answer[2], b"fault: memory\n")
+            is_told = self.is_told(ample, answer)
             told += is_told
             self.expect(answer == ample or (is_told and n <= growths), answer, f"growth {n} of {growths}")
         self.expect(told > 0, ample, f"none of {growths} growths ends in fault: memory")
@@ -265,6 +298,14 @@ class AirRuns(Runs):
         return writes
 
 
+class ReplayRuns(Runs):
+    """Runs of `air --replay`, which goes on when there is no memory for its log or for a change."""
+
+    def is_told(self, ample, answer):
+        """Whether it ended in `fault: memory`, and no packets went out, or as many as otherwise."""
+        return answer[0] == 3 and answer[2] == b"fault: memory\n" and len(answer[1]) in (0, len(ample[1]))
+
+
 class ReportRuns(Runs):
     """Runs of `monitor` that write while they read: what went out before a call fails stays."""
 
@@ -325,12 +366,19 @@ def build(folder):
     subprocess.run(words, check=True)
 
 
-def refuse_all(program, folder, words, growths_alone):
+def kind_of(words):
+    """The class of the runs of a command."""
+    if words.startswith("air "):
+        return ReplayRuns if "--replay" in words else AirRuns
+    return ReportRuns if words.startswith("monitor ") and "--every" in words else Runs
+
+
+def refuse_all(program, folder, words, status, growths_alone):
     """All runs of one command in a folder of its own: how many allocations, `fault: memory` answers, reads and writes there were."""
-    is_report = words.startswith("monitor ") and "--every" in words
-    runs = (AirRuns if words.startswith("air ") else ReportRuns if is_report else Runs)(program, folder, words)
+    runs = kind_of(words)(program, folder, words)
     growths, told = runs.refuse_growths()
     ample = runs.run()
+    runs.expect(ample[0] == status, ample, f"while no call fails, and not status {status}")
     pieces = () if growths_alone else PIECES
     reads = sum(runs.fail_reads(ample, piece) for piece in pieces)
     writes = sum(runs.fail_writes(ample, piece) for piece in pieces)
@@ -340,12 +388,14 @@ def refuse_all(program, folder, words, growths_alone):
 
 def main():
     program = str(Path(sys.argv[1]).resolve())
-    failures, made = [], 0
+    lacking = sorted(set(commands(program)) - {words.split()[0] for words, _, _ in COMMANDS})
+    failures, made = [f"{name}: the table has no line for this command" for name in lacking], 0
     with tempfile.TemporaryDirectory() as name:
         inputs = Path(name, "inputs")
         inputs.mkdir()
         build(inputs)
         make_inputs(inputs)
+        make_changed_log(program, inputs)
 
         def in_own_folder(number):
             return refuse_all(program, shutil.copytree(inputs, Path(name, str(number))), *COMMANDS[number])

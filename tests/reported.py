@@ -29,6 +29,14 @@ def run(program, *words):
     return done.returncode, done.stdout.decode(), done.stderr.decode()
 
 
+def said(program, *words, no="no "):
+    """The output of a command. Its status is 1 if a line begins with this `no`, and otherwise 0; another status or an error ends the test."""
+    status, text, errors = run(program, *words)
+    if status != int(any(line.startswith(no) for line in text.splitlines())) or errors:
+        sys.exit(f"FAILED {' '.join(map(str, words))}: status {status}, {text[:200]!r} {errors!r}")
+    return text
+
+
 def planned(program, folder, name, repeat, kind):
     """A planned service with a certificate; with a slot that is none; and with a page that the service text lacks."""
     stem = f"{name}-{repeat}-{kind}"
@@ -37,9 +45,8 @@ def planned(program, folder, name, repeat, kind):
     if repeat > 1:
         text = re.sub(r'(?m)^number = "11(\d)"', r'number = "11\1"\nwithin = 2.5', text)
     service.write_text(text)
-    for words in (("plan", service, cycle, "--class", kind), ("find", cycle, service, cert, "--repeat", repeat, "--class", kind)):
-        if run(program, *words)[0] not in (0, 1):
-            raise SystemExit(f"reported: {words} fails")
+    said(program, "plan", service, cycle, "--class", kind)
+    said(program, "find", cycle, service, cert, "--repeat", repeat, "--class", kind)
     slots = cycle.read_bytes()
     broken.write_bytes(slots[: 42 * 40] + bytes([0xFF] * 42) + slots[42 * 41 :])
     fewer.write_text(text[: text.rindex("[[page]]")])
@@ -68,7 +75,7 @@ def waits_of(program, files, numbers, pages):
     bare.write_text(text) if bare.parent != DATA else None
     service = files[1] if bare.parent == DATA else bare
     words = ("--repeat", numbers.repeat, "--class", "clearing" if numbers.clears else "any")
-    *lines, last = run(program, "wait", files[0], service, *words)[1].splitlines()
+    *lines, last = said(program, "wait", files[0], service, *words, no="all never").splitlines()
     waits = []
     for line, page in zip(lines, pages, strict=True):
         name, rest = line[:8], line[8:]
@@ -80,7 +87,7 @@ def waits_of(program, files, numbers, pages):
 
 def others_of(program, cycle, pages):
     own = {f"{page['number']}/{page.get('sub', '0000')}" for page in pages}
-    names = [line.split(" ", 1)[0] for line in run(program, "pages", cycle)[1].splitlines()]
+    names = [line.split(" ", 1)[0] for line in said(program, "pages", cycle).splitlines()]
     return [name for name in names if re.fullmatch(r"[1-8][0-9A-F]{2}/[0-9A-F]{4}", name) and name[1:3] != "FF" and name not in own]
 
 
@@ -88,13 +95,13 @@ def model(program, files, date=None):
     cycle, service, cert = files
     text = tomllib.loads(service.read_text())
     numbers = numbers_of(text, cert)
-    line = run(program, "certify", *files)[1]
+    line = said(program, "certify", *files)
     waits, last = waits_of(program, files, numbers, text["page"])
     found = Found(line, waits, last, others_of(program, cycle, text["page"]))
     entries = sum(1 for entry in cert.read_text().splitlines() if re.match(r"[1-8][0-9A-F]{2}/", entry))
     has = (f"slots: {cycle.stat().st_size // 42}", f"pages: {len(text['page'])}", f"entries: {entries}")
     marks = [hashlib.sha256(file.read_bytes()).hexdigest() for file in files]
-    return document(numbers, found, list(zip(has, marks)), run(program, "version")[1], date)
+    return document(numbers, found, list(zip(has, marks)), said(program, "version"), date)
 
 
 def first_difference(told, wanted):
@@ -103,9 +110,10 @@ def first_difference(told, wanted):
 
 
 def case_fails(program, folder, files):
-    out, dated = folder / "out.html", folder / "dated.html"
-    status = run(program, "certify", *files)[0]
-    for told in (run(program, "report", *files, out), run(program, "report", *files, dated, "--date", DATE)):
+    out, dated, again = (folder / name for name in ("out.html", "dated.html", "again.html"))
+    status = int(not said(program, "certify", *files).startswith("yes "))
+    for words in ((out,), (dated, "--date", DATE), (again,)):
+        told = run(program, "report", *files, *words)
         if told != (status, "", ""):
             return f"report says {told}"
     if re.search(r"<script|<link|<img|src=|url\(|href=", out.read_text()):
@@ -115,8 +123,7 @@ def case_fails(program, folder, files):
         wanted = model(program, files, date)
         if file.read_text() != wanted:
             return first_difference(file.read_text(), wanted)
-    run(program, "report", *files, folder / "again.html")
-    return None if (folder / "again.html").read_text() == out.read_text() else "two reports differ"
+    return None if again.read_text() == out.read_text() else "two reports differ"
 
 
 def is_date(text):
@@ -161,7 +168,7 @@ def main():
         folder = Path(name)
         for files in inputs(program, folder):
             count += 1
-            verdicts.add(run(program, "certify", *files)[1].split(" ")[0])
+            verdicts.add(said(program, "certify", *files).split(" ")[0])
             why = case_fails(program, folder, files)
             if why:
                 failed += 1

@@ -58,7 +58,13 @@ class Family:
         self.known = {}
 
     def run(self, *words):
-        return subprocess.run([self.program, *words], cwd=self.folder, capture_output=True, text=True, check=False).stdout
+        """The answer of the program: status 0 with `found ..` or `yes`, or 1 with `no ..`. Anything else ends the test."""
+        done = subprocess.run([self.program, *words], cwd=self.folder, capture_output=True, text=True, check=False, timeout=60)
+        answers = {0: ("found deadline ", "yes\n"), 1: ("no ",)}
+        if not done.stdout.startswith(answers.get(done.returncode, ())) or done.stderr:
+            case = f"{self.lines} lines, repeat {self.repeat}: {' '.join(words)}"
+            sys.exit(f"FAILED {case}: status {done.returncode}, {done.stdout!r} {done.stderr!r}")
+        return done.stdout
 
     def find(self, edition):
         (self.folder / f"{edition.name}.t42").write_bytes(b"".join(edition.slots))

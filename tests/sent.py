@@ -84,6 +84,14 @@ def clock_at_end(stream, lines, second):
     return None
 
 
+def output(program, *words, **options):
+    """What a command writes. A status other than 0 or an error ends the test."""
+    ran = subprocess.run([program, *words], capture_output=True, check=False, timeout=120, **options)
+    if ran.returncode or ran.stderr:
+        sys.exit(f"sent: {' '.join(map(str, words))}: status {ran.returncode}, {len(ran.stdout)} bytes, {ran.stderr!r}")
+    return ran.stdout
+
+
 def zone_file(rule):
     """A zone in the form of TZif, version 2, with this rule for all times after 1970 (RFC 8536)."""
     types = struct.pack(">lBB", 3600, 0, 0) + b"CET\0"
@@ -103,15 +111,15 @@ def zoned_sendings(program, folder, cycle):
         for at in f"{mjd}/005950", text:
             words = ["--at", at, "--zone", "Test/Berlin", "--fields", "1000", "--lines", "3"]
             environment = os.environ | {"TZDIR": str(folder / "zones")}
-            ran = subprocess.run([program, "send", folder / "cycle.t42", *words], capture_output=True, env=environment, check=False)
+            made = output(program, "send", folder / "cycle.t42", *words, env=environment)
             wanted = bytearray()
             for field in range(1000):
                 second = 3590 + field // 50
                 halves = before if second < 3600 else after
                 for line in range(3):
                     wanted += timed(cycle[(3 * field + line) % len(cycle)], mjd, second, 1800 * halves, halves)
-            if ran.stdout != bytes(wanted):
-                return f"{' '.join(words)}: {ran.stderr!r}, {len(ran.stdout)} bytes"
+            if made != bytes(wanted):
+                return f"{' '.join(words)}: something else is sent"
     return None
 
 
@@ -120,7 +128,7 @@ def sending_now(program, folder):
     # a page header without a clock
     (folder / "header.t42").write_bytes(bytes(WORDS[n] for n in (1, 0, 0, 0, 0, 0, 0, 0, 0, 0)) + bytes([0x20]) * 32)
     before = int(time.time())
-    made = subprocess.run([program, "send", "header.t42", "--at", "now", "--fields", "1", "--lines", "1"], cwd=folder, capture_output=True, check=True).stdout
+    made = output(program, "send", folder / "header.t42", "--at", "now", "--fields", "1", "--lines", "1")
     clock = "".join(chr(byte % 128) for byte in made[34:42])
     known = [time.strftime("%H:%M:%S", time.gmtime(second)) for second in range(before, int(time.time()) + 1)]
     return None if clock in known else f"now is {clock}, and not one of {known}"
@@ -130,17 +138,17 @@ def long_sending(program, folder):
     """What is wrong with the clock shown after 100,000 fields, or None."""
     lines, second, kept = 12, 23 * 3600 + 40 * 60, 5400
     service = Path(__file__).resolve().parent.parent / "examples/broadcast.toml"
-    subprocess.run([program, "plan", service, folder / "news.t42", "--late"], capture_output=True, check=True)
+    output(program, "plan", service, folder / "news.t42", "--late")
     words = ["--at", "60999/234000", "--fields", "100000", "--lines", str(lines)]
-    stream = subprocess.run([program, "send", folder / "news.t42"] + words, capture_output=True, check=True).stdout
+    stream = output(program, "send", folder / "news.t42", *words)
     if len(stream) != 100000 * lines * 42:
         return f"{len(stream)} bytes"
     # a packet file has at most 65,536 slots: the last fields
     (folder / "end.t42").write_bytes(stream[-kept * lines * 42 :])
     wanted = clock_at_end(stream, lines, second)
     words = [folder / "end.t42", "100", "--lines", str(lines), "--slots", str(kept * lines)]
-    shown = subprocess.run([program, "show", *words, "--as", "text"], capture_output=True, text=True, check=True).stdout
-    row = subprocess.run([program, "receive", *words], capture_output=True, text=True, check=True).stdout.split("\n")[0].split()[2:]
+    shown = output(program, "show", *words, "--as", "text").decode()
+    row = output(program, "receive", *words).decode().split("\n")[0].split()[2:]
     told = [shown.split("\n")[0][32:40], "".join(chr(int(word, 16) % 128) for word in row[32:40])]
     return None if told == [wanted, wanted] else f"{told} are shown, and it is {wanted}"
 
@@ -159,7 +167,7 @@ def main():
             phase, halves = chance.choice([0, 7, 2**32 - 1]), chance.randrange(-24, 48)
             at = f"{mjd:05}/{second // 3600:02}{second // 60 % 60:02}{second % 60:02}"
             words = ["--at", at, "--fields", str(fields), "--lines", str(lines), "--phase", str(phase), f"--offset={halves}"]
-            made = subprocess.run([program, "send", str(cycle_file)] + words, capture_output=True, check=True).stdout
+            made = output(program, "send", cycle_file, *words)
             wanted = bytearray()
             for field in range(fields):
                 now = second + field // 50

@@ -8,7 +8,7 @@ set -u
 here=$top/tests
 
 name=data
-python3 "$here/make_data.py" "$work/data"
+python3 "$here/make_data.py" "$work/data" || fail "make_data.py: status $?"
 diff -r "$work/data" "$here/data" > /dev/null || fail "tests/data isn't what make_data.py makes"
 
 name=markup
@@ -23,7 +23,9 @@ sh "$here/recipes.sh" "$program" > "$work/recipes" 2>&1 || fail "$(tail -n 3 "$w
 
 name=logic
 # a kit with another name may have the same logic
-logic=$("$program" version | sed -n 's/^logic //p')
+"$program" version > "$work/version" 2> "$work/said" || fail "version: status $?"
+[ ! -s "$work/said" ] || fail "version: $(head -n 3 "$work/said")"
+logic=$(sed -n 's/^logic //p' "$work/version")
 [ -n "$logic" ] || fail "version names no logic"
 rt version | head -n 1 | grep -q " logic $logic$" || fail "it is proved by another logic, or there is no rt"
 

@@ -10,10 +10,11 @@ In the plain program's places no two pages of one number stand in one round whil
 """
 import os
 import random
-import subprocess
 import sys
 import tempfile
 
+sys.dont_write_bytecode = True
+from planned import answer, run, wrong_in  # noqa: E402
 
 CASES = 120
 
@@ -206,14 +207,9 @@ def text_of(pages, lines, is_serial):
     return text
 
 
-def run(program, *words):
-    done = subprocess.run([program, *words], capture_output=True, text=True, timeout=60, check=False)
-    return done.returncode, done.stdout
-
-
 def wrong_slots(program, slots, pages):
     """What is wrong with the cycle that was planned, or None."""
-    shown = [line.split(" ", 1)[1] for line in run(program, "inspect", "cycle")[1].splitlines()]
+    shown = [line.split(" ", 1)[1] for line in run(program, "inspect", "cycle").splitlines()]
     wanted = named(slots, pages)
     if len(shown) != len(wanted):
         return f"{len(shown)} slots and not {len(wanted)}"
@@ -231,13 +227,13 @@ def wrong_deadlines(program, deadline):
         (["--deadline", str(deadline - 1)], 1, "no 10 late "),
     ]
     for words, wanted, begin in answers[: 3 if deadline > 1 else 2]:
-        status, line = run(program, "find", "cycle", "service", "cert", *words)
-        if status != wanted or not line.startswith(begin):
-            return f"find {words}: {status} {line}"
+        line = run(program, "find", "cycle", "service", "cert", *words, status=wanted)
+        if not line.startswith(begin):
+            return f"find {words}: {line}"
         if wanted == 0:
-            status, line = run(program, "certify", "cycle", "service", "cert")
-            if status != 0 or " " + begin.strip().split(" ", 1)[1] + " " not in line:
-                return f"certify: {status} {line}"
+            line = run(program, "certify", "cycle", "service", "cert")
+            if " " + begin.strip().split(" ", 1)[1] + " " not in line:
+                return f"certify: {line}"
     return None
 
 
@@ -245,7 +241,7 @@ def wrong_plan(program, pages, lines, is_serial):
     """What is wrong with the spread plan of a service, or None. The folder is the current one."""
     with open("service", "w", encoding="ascii") as file:
         file.write(text_of(pages, lines, is_serial))
-    status, line = run(program, "plan", "service", "cycle", "--spread")
+    said = answer(program, "plan", "service", "cycle", "--spread")
     _, late, slots, told = choose(pages, lines, is_serial, False)
     if unshared(pages, places(pages)):
         return f"pages of {unshared(pages, places(pages))} stand together"
@@ -253,9 +249,9 @@ def wrong_plan(program, pages, lines, is_serial):
         numbers = numbers_of(pages)
         order = sorted(-index for _, index in late)
         wanted = "".join(f"late {numbers[at]}/{pages[at]['sub']:04X} {told[at]} fields of {pages[at]['within']}\n" for at in order)
-        return None if (status, line) == (1, wanted) else f"plan: {status} {line!r} and not {wanted!r}"
-    if (status, line) != (0, f"planned {len(slots)} slots\n"):
-        return f"plan: {status} {line}"
+        return None if said == (1, wanted) else f"plan: {said} and not {wanted!r}"
+    if said != (0, f"planned {len(slots)} slots\n"):
+        return f"plan: {said}"
     return wrong_slots(program, slots, pages) or wrong_deadlines(program, max(told))
 
 
@@ -290,7 +286,7 @@ def main():
             mags = draw.sample(range(1, 9), draw.randint(1, 8))
             pages = [drawn_page(draw, mags, case % 2 == 1) for _ in range(draw.randint(1, 40))]
             number(draw, pages, case % 3 == 2)
-            what = wrong_plan(program, pages, draw.choice([1, 2, 3, 8, 12, 16]), draw.random() < 0.5)
+            what = wrong_in(wrong_plan, program, pages, draw.choice([1, 2, 3, 8, 12, 16]), draw.random() < 0.5)
             told += [f"case {case}: {what}"] if what else []
         os.chdir("/")
     for line in told:

@@ -16,7 +16,8 @@ function or lemma, and how. A later run tries only mutants that no line with the
 leaves out those that have an edit file of their own, which the gate has tried by itself. --stale tries nothing, and lists the mutants without
 such a line.
 
-The status is 1 if a mutant is not refused for want of a proof, or if a heading does not name the functions that its mutant changes.
+The status is 1 if a mutant is not refused for want of a proof, if a heading does not name the functions that its mutant changes, if two
+mutants of one edit file change one function, or if a mutant that the record has is gone: --forget drops its line.
 """
 import argparse
 import collections
@@ -47,7 +48,8 @@ FUNCTION = re.compile(r"\s*(?:pub(?:\([a-z]+\))? )?(?:const |unsafe )?fn ")
 IMPL = re.compile(r"impl\s*(?:[\w:]+\s+for\s+)?(?:\w+::)*(\w+)")
 DEFINITION = re.compile(r"(?:pub )?(?:abbrev |unfoldable |record |data )*(?:pub )?(?!where\b|unfolding\b|use\b|mod\b|--)([^\s:{})]+)")
 
-LACKING = re.compile(r"^fn \w+::(\S+): no proof: expected answers in \S+; (.*)$", re.M)
+# (a function that only calls one that is not proved is not refused itself)
+LACKING = re.compile(r"^fn \w+::(\S+): no proof: expected answers in \S+; (?!it calls )(.*)$", re.M)
 NOT_PROVED = re.compile(r"^fn \w+::(\S+): not proved$", re.M)
 WRITTEN = re.compile(r"^(?:\./)?proofs/(\S+)/(?:Answers|Invariants|Proof)\.antt:\d+:\d+: error: (.*)", re.M)
 LEMMA = re.compile(r"^(?:\./)?proofs/(?!\S*/(?:Answers|Invariants|Proof)\.antt)\S+\.antt:\d+:\d+: error: `([^`]+)`: (.*)", re.M)
@@ -130,9 +132,9 @@ def bodies_of(name):
 
 
 def joined(bodies):
-    """Those of a crate's mutants that share an edit file."""
-    counts = collections.Counter(body.edit for body in bodies)
-    return [body for body in bodies if counts[body.edit] > 1]
+    """The mutants that share an edit file."""
+    counts = collections.Counter((body.crate, body.edit) for body in bodies)
+    return [body for body in bodies if counts[body.crate, body.edit] > 1]
 
 
 def steps(lines):
@@ -193,6 +195,23 @@ def misnamed(body):
     return [f"{body.crate}/{body.edit}: a body under '{body.heading}' turns {names}"] if is_of_names and heading != names else []
 
 
+def lines_of(body):
+    """The first lines of the functions that a mutant changes, each with its file."""
+    found = set()
+    for path, old, _ in steps(body.lines):
+        file = pathlib.Path("crates", body.crate, path)
+        text = file.read_text() if file.is_file() else ""
+        above = text[: text.find(old)].split("\n")
+        found.update([(path, at) for at, line in enumerate(above) if FUNCTION.match(line)][-1:])
+    return found
+
+
+def doubled(bodies):
+    """A message for each function that two mutants of one edit file change."""
+    counts = collections.Counter((body.crate, body.edit, *it) for body in bodies if is_body(body) for it in lines_of(body))
+    return [f"{crate}/{edit}: two bodies turn the function at {path}:{at + 1}" for (crate, edit, path, at), count in counts.items() if count > 1]
+
+
 def turned_functions(body):
     """The functions that a mutant changes, each as a pattern of its path in the crate. A method is named by the module of its type."""
     found = []
@@ -235,6 +254,13 @@ def rounds(bodies):
         else:
             room.append(body)
     return groups + alone
+
+
+def portions(bodies, most):
+    """A crate's mutants in at most `most` portions, each of two groups or more, to be tried side by side."""
+    groups = rounds(bodies)
+    count = max(1, min(most, len(groups) // 2))
+    return [[body for group in groups[at::count] for body in group] for at in range(count)]
 
 
 class Room:
@@ -380,10 +406,15 @@ class Record:
             self.rows[body.key] = [*body.key, sources_sum, verdict, function, tidy]
             self.save()
 
+    def gone(self, names, bodies):
+        """The keys of the lines of these crates, or of all, whose heading no edit file has any more."""
+        headings = {body.key[:3] for body in bodies}
+        return [key for key in self.rows if (not names or key[0] in names) and key[:3] not in headings]
+
     def keep(self, names, keys):
-        """Drops the lines of mutants of these crates that no longer exist."""
+        """Drops the lines of these crates, or of all, that have other keys."""
         with self.lock:
-            self.rows = {key: row for key, row in self.rows.items() if key[0] not in names or key in keys}
+            self.rows = {key: row for key, row in self.rows.items() if names and key[0] not in names or key in keys}
             self.save()
 
     def save(self):
@@ -415,47 +446,59 @@ def try_crate(room, name, bodies, now, record):
     return failed
 
 
-def main():
+def arguments():
     words = argparse.ArgumentParser(description="Tries each wrong body of the must-fail edits by itself.")
-    words.add_argument("--jobs", type=int, default=2, help="so many crates at a time, each in 1 to 4 GB")
+    words.add_argument("--jobs", type=int, default=2, help="so many checks at a time, each in 1 to 4 GB")
     words.add_argument("--crate", action="append", help="this crate alone; more of them may be named")
     words.add_argument("--anew", action="store_true", help="also what the record has")
     words.add_argument("--joined", action="store_true", help="only mutants that share an edit file")
     words.add_argument("--stale", action="store_true", help="lists the bodies that the record doesn't have as they stand, and tries none")
-    words = words.parse_args()
-    known, record, now = crates(), Record(), logic()
-    names = words.crate or sorted(known)
-    bodies = {name: joined(bodies_of(name)) if words.joined else bodies_of(name) for name in names}
-    sums = {name: sum_of_sources(known, name, now) for name in names if bodies[name]}
-    every = [body for name in names for body in bodies[name]]
+    words.add_argument("--forget", action="store_true", help="drops the lines of mutants that are gone")
+    return words.parse_args()
+
+
+def try_stale(stale, known, jobs, now, record):
+    """Tries these mutants in so many rooms. Returns how many are not refused for want of a proof."""
+    mine = hashlib.sha256(str(pathlib.Path.cwd()).encode()).hexdigest()[:8]
+    top = pathlib.Path(tempfile.gettempdir(), f"ttx-edits-{mine}")
+    rooms = [Room(top / str(n), known) for n in range(jobs)]
+
+    def work(name, bodies):
+        room = rooms.pop()
+        try:
+            return try_crate(room, name, bodies, now, record)
+        finally:
+            rooms.append(room)
+
+    # a check builds each library that it does not find in out/, so those that rt ci kept are put there first
+    subprocess.run([sys.executable, KEPT], check=False)
+    # the largest crates first, so that none of them is left to the end
+    largest_first = sorted({body.crate for body in stale}, key=lambda name: -sum(it.stat().st_size for it in sources([name])))
+    by_name = {name: [body for body in stale if body.crate == name] for name in largest_first}
+    with concurrent.futures.ThreadPoolExecutor(jobs) as pool:
+        tries = [pool.submit(work, name, it) for name, bodies in by_name.items() for it in portions(bodies, jobs)]
+        failed = sum(it.result() for it in tries)
+    shutil.rmtree(top, ignore_errors=True)
+    return failed
+
+
+def main():
+    words, known, record, now = arguments(), crates(), Record(), logic()
+    planted = [body for name in words.crate or sorted(known) for body in bodies_of(name)]
+    every = joined(planted) if words.joined else planted
+    sums = {name: sum_of_sources(known, name, now) for name in {body.crate for body in every}}
     stale = [body for body in every if words.anew or not record.has(body, sums[body.crate])]
-    wrong = [line for body in every for line in misnamed(body)]
+    gone = [] if words.forget else record.gone(words.crate, planted)
+    wrong = [line for body in every for line in misnamed(body)] + doubled(planted)
+    wrong += [f"{'/'.join(key[:2])}: {key[2]}: the mutant is gone (--forget drops its line)" for key in gone]
     print("".join(f"FAILED {line}\n" for line in wrong), end="")
     if words.stale:
         counts = collections.Counter(body.crate for body in stale)
         which = ", ".join(f"{name} {counts[name]}" for name in sorted(counts))
         print(f"edits: {len(every)} wrong bodies, {len(stale)} not recorded as they stand" + (f": {which} (make edits tries them)" if stale else ""))
         return 1 if wrong else 0
-    record.keep(set(names), {body.key for name in names for body in bodies_of(name)})
-    if stale:
-        # a check builds each library that it does not find in out/, so those that rt ci kept are put there first
-        subprocess.run([sys.executable, KEPT], check=False)
-    mine = hashlib.sha256(str(pathlib.Path.cwd()).encode()).hexdigest()[:8]
-    top = pathlib.Path(tempfile.gettempdir(), f"ttx-edits-{mine}")
-    rooms = [Room(top / str(n), known) for n in range(words.jobs)]
-
-    def work(name):
-        room = rooms.pop()
-        try:
-            return try_crate(room, name, [body for body in stale if body.crate == name], now, record)
-        finally:
-            rooms.append(room)
-
-    # the largest crates first, so that none of them is left to the end
-    largest_first = sorted({body.crate for body in stale}, key=lambda name: -sum(it.stat().st_size for it in sources([name])))
-    with concurrent.futures.ThreadPoolExecutor(words.jobs) as pool:
-        failed = sum(pool.map(work, largest_first))
-    shutil.rmtree(top, ignore_errors=True)
+    record.keep(words.crate, {body.key for body in planted}.union(gone))
+    failed = try_stale(stale, known, words.jobs, now, record) if stale else 0
     weak = [row for body in every if (row := record.rows.get(body.key)) and row[5] not in ENOUGH]
     print(f"edits: {len(every)} wrong bodies, {len(stale)} tried now, {len(weak) + len(wrong)} failed")
     return 1 if failed or weak or wrong else 0

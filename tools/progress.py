@@ -7,6 +7,7 @@ estimate of what is left comes from the lines of the crates that are still to be
 import os
 import pathlib
 import re
+import resource
 import subprocess
 import sys
 import time
@@ -104,7 +105,9 @@ def main():
         if "ci" in command:
             print(refusals(log))
         print(last, end="")
-    took = f"{span(time.time() - progress.start)} on {len(os.sched_getaffinity(0))} processors"
+    used = resource.getrusage(resource.RUSAGE_CHILDREN)
+    work = f"{round((used.ru_utime + used.ru_stime) / 60)} processor minutes"
+    took = f"{span(time.time() - progress.start)} on {len(os.sched_getaffinity(0))} processors, {work}"
     print(f"{' '.join(command)}: {'failed' if status else 'done'} after {took}; the whole text is in {log}")
     return status if status >= 0 else 1
 

@@ -39,19 +39,20 @@ def reckon_once(crate):
     crate.below, crate.stamp = below_once, stamp_once
 
 
-def run_rt(name):
-    """Runs the kit's rt as a module of this name. Returns the names that it defines; `None` if it has another form than this script knows."""
+def run_rt(name, more=""):
+    """Runs the kit's rt as a module of this name, with some lines more behind the one that loads its library `rtlib`. Returns the names that
+    it defines; `None` if it has another form than this script knows."""
     kit = os.path.realpath(shutil.which("rt") or "rt")
     text = pathlib.Path(kit).read_text(errors="replace") if os.path.isfile(kit) else ""
     if text.count(LOADED) != 1:
         return None
     names = {"__name__": name, "__file__": kit, "reckon_once": reckon_once}
-    exec(compile(text.replace(LOADED, f"{LOADED}reckon_once(rtlib.Crate)\n"), kit, "exec"), names)
+    exec(compile(text.replace(LOADED, f"{LOADED}reckon_once(rtlib.Crate)\n{more}"), kit, "exec"), names)
     return names
 
 
-def main():
-    if run_rt("__main__") is None:
+def main(more=""):
+    if run_rt("__main__", more) is None:
         os.execvp("rt", ["rt", *sys.argv[1:]])
 
 

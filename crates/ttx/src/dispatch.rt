@@ -21,7 +21,7 @@ use ttx_cycle::Counted;
 use ttx_reasons::REASONS;
 use ttx_tool::{ToolFault, commands};
 
-// The status of a command, whose fault has been reported. An error is that of a file that cannot be opened.
+// The status of a command, whose fault has been reported. An error is that of a file that cannot be opened, or memory ran out.
 type Outcome = io::Result<u8>;
 
 // Writes the version, the kit and the logic.
@@ -38,7 +38,7 @@ fn explain(rt: &HostRuntime, reason: &str) -> Result<u8, ToolFault> {
 }
 
 /// Opens the inputs in the order of the arguments, makes the output file anew unless it is an input, and runs the command. An
-/// error is that of a file that cannot be opened.
+/// error is that of a file that cannot be opened, or memory ran out.
 pub fn run_order(rt: &HostRuntime, order: &Order<'_>) -> Outcome {
     match order {
         Order::Inspect { file } => cycles::inspect(rt, file),

@@ -17,11 +17,14 @@ use ttx_tool::{ToolFault, commands};
 // The status of refused arguments.
 const REFUSED: u8 = 2;
 
-// Runs an order, and returns the status of the program.
+// Runs an order, and returns the status of the program. An error that is left is that of a file, or memory ran out.
 fn execute(rt: &HostRuntime, order: &Order<'_>) -> u8 {
     match run_order(rt, order) {
         Ok(status) => status,
-        Err(_) => file_fault(rt),
+        Err(error) => match error.kind() {
+            io::ErrorKind::OutOfMemory => memory_fault(rt),
+            _ => file_fault(rt),
+        },
     }
 }
 

@@ -1,8 +1,10 @@
 //! Bytes of the standard's tables, and a sent text.
 
+use std::test::Fail;
 use ttx_code::{
     all_odd, are_readable, are_words, ham, ham_pair, is_word, number_of, odd, odd_of, unham,
 };
+use ttx_digits::push_digit;
 
 // The code word of each number (EN 300 706, 8.2).
 const WORDS: [u8; 16] = [
@@ -82,4 +84,13 @@ fn odd_parity_of_a_row(rt: HostRuntime) {
         }
         assert!(rt; all_odd(&bytes) == *is_odd, "{at}");
     }
+}
+
+#[test]
+fn digits_of_a_text(rt: HostRuntime) -> Result<(), Fail> {
+    let mut text = String::new(rt.alloc());
+    push_digit(&mut text, 0)?;
+    push_digit(&mut text, 9)?;
+    assert!(rt; text.as_str() == "09");
+    Ok(())
 }

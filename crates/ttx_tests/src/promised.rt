@@ -7,7 +7,7 @@ use ttx_promise::{
     Detail, LatePage, PromiseFault, Reported, Viewers, late_lines, plan_promises, promised_waits,
     report_promises, report_promises_with, some_late,
 };
-use ttx_source::{read_promises, read_service};
+use ttx_source::{read_promises, read_service, read_stays};
 
 // Three pages: one that any cycle sends in time, one that none does, and one that none does and is sent twice.
 static TEXT: &[u8] = b"lines = 4\nserial = true\n[[page]]\nnumber = \"100\"\nwithin = 20000\n\
@@ -147,4 +147,20 @@ fn items_stand_under_promised_pages(rt: HostRuntime) -> Result<(), Fail> {
     assert!(rt; report.text.as_str().starts_with(begin));
     assert!(rt; report.late && report.deadline == Some(22));
     Ok(())
+}
+
+// Two subpages of one number, of which the second says for how long each stays, and a page that has a time of its own.
+static STAYING: &[u8] = b"lines = 4\nserial = true\n[[page]]\nnumber = \"100\"\nsub = \"0001\"\n\
+    [[page]]\nnumber = \"100\"\nsub = \"0002\"\nstays = 8.5\n[[page]]\nnumber = \"101\"\nwithin = 20\n";
+
+#[test]
+fn stays_are_read(rt: HostRuntime) {
+    let Ok(stays) = read_stays(rt.alloc(), STAYING) else {
+        panic!(rt; "there are no stays");
+    };
+    let Some(stay) = stays.get(0) else {
+        panic!(rt; "no page has stays");
+    };
+    assert!(rt; stays.len() == 1 && stay.page == 1 && stay.fields == 425);
+    assert!(rt; read_stays(rt.alloc(), b"lines").is_err());
 }

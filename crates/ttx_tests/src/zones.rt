@@ -6,7 +6,7 @@ use jiff::tz::TimeZone;
 use std::test::Fail;
 use ttx_cycle::faulty::FaultyWriter;
 use ttx_cycle::{Counted, Cycle};
-use ttx_moment::ZoneClock;
+use ttx_moment::{ZoneClock, moment_by_clock};
 use ttx_send::iso_texts::{clock_text, date_text, offset_text};
 use ttx_send::{Clock, Moment, send, timed};
 
@@ -66,6 +66,33 @@ fn clocks_show_daylight_saving(rt: HostRuntime) {
         assert!(rt; shown.text.get(19..) == Some(offset.as_slice()));
         let info = timed(&SENT, moment);
         assert!(rt; info[11] == shown.offset);
+    }
+}
+
+// What the clock of a zone shows, and the second of a day in UTC at which it does: an ordinary time, one that the clock shows twice, and
+// one that it skips.
+#[rattlefmt::skip]
+static NAMED: [(&str, (u32, u32), (u32, u32), &[u8]); 3] = [
+    (KATHMANDU, (61_406, 18_900), (61_405, 84_600), b"2027-01-01T05:15:00"),
+    (BERLIN, (61_338, 9_000), (61_338, 1_800), b"2026-10-25T02:30:00"),
+    (BERLIN, (61_128, 9_000), (61_128, 5_400), b"2026-03-29T03:30:00"),
+];
+
+#[test]
+fn moments_by_the_clock_of_a_zone(rt: HostRuntime) {
+    for (name, shown, utc, text) in &NAMED {
+        let Ok(zone) = TimeZone::posix(name) else {
+            panic!(rt; "there is no zone");
+        };
+        let Some(moment) = moment_by_clock(shown.0, shown.1, &zone) else {
+            panic!(rt; "there is no moment");
+        };
+        assert!(rt; (moment.mjd(), moment.second()) == *utc);
+        let (date, time) = (date_text(&moment), clock_text(&moment));
+        assert!(rt; text.get(..10) == Some(date.as_slice()));
+        assert!(rt; text.get(11..) == Some(time.as_slice()));
+        assert!(rt; moment_by_clock(100_000, 0, &zone).is_none());
+        assert!(rt; moment_by_clock(shown.0, 86_400, &zone).is_none());
     }
 }
 

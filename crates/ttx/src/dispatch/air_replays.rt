@@ -50,6 +50,26 @@ fn archive_in(rt: &HostRuntime, folder: &str) -> io::Result<Vec<FiledText>> {
     Ok(archive)
 }
 
+// Whether a line says that memory ran out.
+fn is_lack(line: &str) -> bool {
+    line.ends_with(": out of memory")
+}
+
+// Whether memory ran out for a change that the given log records: the first line that the replay's own log has otherwise says so.
+fn ran_out(own: &[u8], given: &str) -> bool {
+    let Ok(own) = std::str::from_utf8(own) else {
+        return false;
+    };
+    let mut others = given.lines();
+    for line in own.lines() {
+        let other = others.next().unwrap_or("");
+        if line != other {
+            return is_lack(line) && !is_lack(other);
+        }
+    }
+    false
+}
+
 // Puts on the air again what the log in this text says, by this clock.
 fn replay_by<C: Clock>(
     rt: &HostRuntime,
@@ -68,6 +88,9 @@ fn replay_by<C: Clock>(
     }
     let own = outputs.log.into_inner();
     let is_same = is_same_so_far(own.as_slice(), text.as_bytes());
+    if !is_same && ran_out(own.as_slice(), text) {
+        return memory_fault(rt);
+    }
     let mut errors = Counted::new(rt.stderr());
     status_of(
         rt,
