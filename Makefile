@@ -16,6 +16,9 @@ PREFIX = /usr/local
 # how many crates and mutants are proved at a time; each takes 1 to 4 GB, less than rt assumes when it is not told
 JOBS = 4
 
+# rt with the checksum of each crate reckoned once, and not anew for each path of crates.txt; RT=rt checks the same, and takes longer
+RT = python3 tools/quick_rt.py
+
 # scripts that run the built program, the longest first
 SCRIPTS = $(addprefix tests/, refused_calls.py refute.py memory.sh cases.py json_lines.py shipped.sh large.py planned.py waits.py keyed.py spliced.py schedules.py sent.py aired.py monitored.py recognised.py \
 	spread.py pictured.py pages.py reported.py checked.py packed.sh extracted.py authors.py documents.py refused_texts.py characters.py)
@@ -25,12 +28,12 @@ SCRIPTS = $(addprefix tests/, refused_calls.py refute.py memory.sh cases.py json
 all: ttx
 
 ttx:
-	python3 tools/progress.py out/make.log rt all check --jobs $(JOBS)
+	python3 tools/progress.py out/make.log $(RT) all check --jobs $(JOBS)
 	cd crates/ttx && rt run < stdin > /dev/null
 	cp $(BUILT) ttx
 
 test:
-	RT_JOBS=$(JOBS) python3 tools/progress.py out/test.log rt ci
+	RT_JOBS=$(JOBS) python3 tools/progress.py out/test.log $(RT) ci
 	python3 tools/refusals.py out/test.log
 	python3 tools/edits.py --jobs $(JOBS)
 	$(MAKE) --no-print-directory --jobs $$(nproc) --output-sync $(SCRIPTS)

@@ -11,10 +11,10 @@ function, in one check, and each must be refused at the function that it changes
 tried alone, as are mutants of definitions, types and constants.
 
 Each result is written to tools/edits.tsv at once, one line for a mutant: the crate, the edit, the heading, the checksums of the mutant and
-of all that it is tried on (the sources of the crate and of those below it, without comments, and the logic), the verdict, the refused
-function or lemma, and how. A later run tries only mutants that no line with these checksums says to be refused; --anew tries all. --joined
-leaves out those that have an edit file of their own, which the gate has tried by itself. --stale tries nothing, and lists the mutants without
-such a line.
+of all that it is tried on, the verdict, the refused function or lemma, and how. What it is tried on are the sources of the crate, what
+another crate's check can read of the crates below (all but the bodies of functions and their written proofs), each without comments, and the
+logic. A later run tries only mutants that no line with these checksums says to be refused; --anew tries all. --joined leaves out those that
+have an edit file of their own, which the gate has tried by itself. --stale tries nothing, and lists the mutants without such a line.
 
 The status is 1 if a mutant is not refused for want of a proof, if a heading does not name the functions that its mutant changes, if two
 mutants of one edit file change one function, or if a mutant that the record has is gone: --forget drops its line.
@@ -46,6 +46,11 @@ ENOUGH = {"refused", "refused by an answer", "refused by a lemma"}
 ITEM = re.compile(r"\s*(?:pub(?:\([a-z]+\))? )?(?:const |unsafe )?(?:fn|struct|enum|const|static|trait|type)\s+(\w+)")
 FUNCTION = re.compile(r"\s*(?:pub(?:\([a-z]+\))? )?(?:const |unsafe )?fn ")
 IMPL = re.compile(r"impl\s*(?:[\w:]+\s+for\s+)?(?:\w+::)*(\w+)")
+# a function whose body no other crate reads, and what may make a body known to others: the macros, traits and constants of its file
+HIDDEN_BODY = re.compile(r"(\s*)(?:pub(?:\([a-z]+\))? )?fn ")
+OPEN_BODY = re.compile(r"\s*(?:#\[macro|macro_rules!|(?:pub(?:\([a-z]+\))? )?(?:unsafe )?trait |.*\bconst fn )")
+# the written proof of a function, which is private to it
+PROOFS = {"Answers.antt", "Invariants.antt", "Proof.antt"}
 DEFINITION = re.compile(r"(?:pub )?(?:abbrev |unfoldable |record |data )*(?:pub )?(?!where\b|unfolding\b|use\b|mod\b|--)([^\s:{})]+)")
 
 # (a function that only calls one that is not proved is not refused itself)
@@ -105,18 +110,49 @@ def sources(names):
     return [it for name in names for part in PARTS for it in sorted(pathlib.Path("crates", name, part).rglob("*")) if it.is_file()]
 
 
+def code_lines(path):
+    """The lines of a file without its comments, so that a reworded comment asks for no new trial."""
+    return [line for line in path.read_text().split("\n") if not line.lstrip().startswith(COMMENTS[path.suffix])]
+
+
+def without_bodies(lines):
+    """The lines of a source without the bodies of its functions, which rt fmt lays out between lines of the function's own indent."""
+    if any(OPEN_BODY.match(line) for line in lines):
+        return lines
+    kept, end = [], None
+    head = None
+    for line in lines:
+        if end is not None and line != end:
+            continue
+        end = None
+        kept.append(line)
+        if found := HIDDEN_BODY.match(line):
+            head = found[1]
+        if head is not None and re.fullmatch(rf"{head}(?:\{{|\).*\{{|[^\s)}}].*\{{)", line):
+            head, end = None, f"{head}}}"
+        elif head is not None and re.fullmatch(rf"{head}\S.*[;}}]", line):
+            head = None
+    return kept
+
+
 @functools.cache
 def sum_of_file(path):
-    """The checksum of a file without its comment lines, so that a reworded comment asks for no new trial."""
-    lines = path.read_text().split("\n")
-    return checksum("\n".join(line for line in lines if not line.lstrip().startswith(COMMENTS[path.suffix])).encode())
+    return checksum("\n".join(code_lines(path)).encode())
+
+
+@functools.cache
+def sum_of_statements(path):
+    """The checksum of what another crate's check can read of a file."""
+    lines = code_lines(path)
+    return checksum("\n".join(without_bodies(lines) if path.suffix == ".rt" else lines).encode())
 
 
 def sum_of_sources(known, name, logic):
     """The checksum of all that a crate's mutants are tried on."""
     names = below(known, name)
     told = [logic, *[f"{it}: {' '.join(known[it])}" for it in names]]
-    told += [f"{it} {sum_of_file(it)}" for it in sources(names)]
+    told += [f"{it} {sum_of_file(it)}" for it in sources([name])]
+    told += [f"{it} {sum_of_statements(it)}" for it in sources(names) if it.parts[1] != name and it.name not in PROOFS]
     return checksum("\n".join(told).encode())
 
 

@@ -1,9 +1,11 @@
 #!/usr/bin/env python3
 """Runs rt, but reckons the checksum of a crate once a call: quick_rt.py WORDS..
 
-Before a check, rt reckons the checksum of each crate below anew for each path of crates.txt that leads down to it: for ttx_tool these are
-some hundred thousand paths, which take longer than the check. The checksums here are the same. The gate does not use this script. Where
-the kit's rt has another form than this script knows, it runs rt as it is.
+Before a check, and under `rt ci` after it again, rt reckons the checksum of each crate below anew for each path of crates.txt that leads
+down to it. For ttx_tool these are 88,000 paths, and a run of `rt ci` over this repository opens some 21 million files for them, which takes
+as long as proving a large crate several times. Here rt keeps each checksum for the rest of the call, and each list of the crates below. That
+is all that differs: `rt ci` proves, tries and runs the same, and `make test RT=rt` runs the kit's rt as it is. Where the kit's rt has
+another form than this script knows, the script does that too.
 """
 import os
 import pathlib
