@@ -12,8 +12,8 @@ tried alone, as are mutants of definitions, types and constants.
 
 Each result is written to tools/edits.tsv at once, one line for a mutant: the crate, the edit, the heading, the checksums of the mutant and
 of all that it is tried on, the verdict, the refused function or lemma, and how. What it is tried on are the sources of the crate, what
-another crate's check can read of the crates below (all but the bodies of functions and their written proofs), each without comments, and the
-logic. A later run tries only mutants that no line with these checksums says to be refused; --anew tries all. --joined leaves out those that
+another crate's check can read of the crates below (all but private functions, the bodies of functions and their written proofs), each
+without comments, and the logic. A later run tries only mutants that no line with these checksums says to be refused; --anew tries all. --joined leaves out those that
 have an edit file of their own, which the gate has tried by itself. --stale tries nothing, and lists the mutants without such a line.
 
 The status is 1 if a mutant is not refused for want of a proof, if a heading does not name the functions that its mutant changes, if two
@@ -47,7 +47,7 @@ ITEM = re.compile(r"\s*(?:pub(?:\([a-z]+\))? )?(?:const |unsafe )?(?:fn|struct|e
 FUNCTION = re.compile(r"\s*(?:pub(?:\([a-z]+\))? )?(?:const |unsafe )?fn ")
 IMPL = re.compile(r"impl\s*(?:[\w:]+\s+for\s+)?(?:\w+::)*(\w+)")
 # a function whose body no other crate reads, and what may make a body known to others: the macros, traits and constants of its file
-HIDDEN_BODY = re.compile(r"(\s*)(?:pub(?:\([a-z]+\))? )?fn ")
+FUNCTION_HEAD = re.compile(r"(\s*)(pub(?:\([a-z]+\))? )?fn ")
 OPEN_BODY = re.compile(r"\s*(?:#\[macro|macro_rules!|(?:pub(?:\([a-z]+\))? )?(?:unsafe )?trait |.*\bconst fn )")
 # the written proof of a function, which is private to it
 PROOFS = {"Answers.antt", "Invariants.antt", "Proof.antt"}
@@ -115,23 +115,26 @@ def code_lines(path):
     return [line for line in path.read_text().split("\n") if not line.lstrip().startswith(COMMENTS[path.suffix])]
 
 
-def without_bodies(lines):
-    """The lines of a source without the bodies of its functions, which rt fmt lays out between lines of the function's own indent."""
+def statements_of(lines):
+    """The lines of a source without the bodies of its functions, and without its private functions, whose place a blank line takes. rt fmt
+    puts a body between lines of the function's own indent."""
     if any(OPEN_BODY.match(line) for line in lines):
         return lines
-    kept, end = [], None
-    head = None
+    kept, is_of_trait, head = [], False, None
     for line in lines:
-        if end is not None and line != end:
+        if line.startswith("impl"):
+            is_of_trait = " for " in line
+        if head is None and (found := FUNCTION_HEAD.match(line)):
+            head, is_in_body, is_public = found[1], False, found[2] == "pub " or (is_of_trait and found[1] != "")
+        is_kept = head is None or (is_public and (not is_in_body or line == f"{head}}}"))
+        if is_kept and (line or kept[-1:] != [""]):
+            kept.append(line)
+        if head is None:
             continue
-        end = None
-        kept.append(line)
-        if found := HIDDEN_BODY.match(line):
-            head = found[1]
-        if head is not None and re.fullmatch(rf"{head}(?:\{{|\).*\{{|[^\s)}}].*\{{)", line):
-            head, end = None, f"{head}}}"
-        elif head is not None and re.fullmatch(rf"{head}\S.*[;}}]", line):
+        if line == f"{head}}}" if is_in_body else re.fullmatch(rf"{head}\S.*[;}}]", line):
             head = None
+        elif re.fullmatch(rf"{head}(?:[^\s}}].*)?\{{", line):
+            is_in_body = True
     return kept
 
 
@@ -144,7 +147,7 @@ def sum_of_file(path):
 def sum_of_statements(path):
     """The checksum of what another crate's check can read of a file."""
     lines = code_lines(path)
-    return checksum("\n".join(without_bodies(lines) if path.suffix == ".rt" else lines).encode())
+    return checksum("\n".join(statements_of(lines) if path.suffix == ".rt" else lines).encode())
 
 
 def sum_of_sources(known, name, logic):
