@@ -29,7 +29,7 @@ all: ttx
 
 ttx:
 	python3 tools/progress.py out/make.log $(RT) all check --jobs $(JOBS)
-	cd crates/ttx && rt run < stdin > /dev/null
+	cd crates/ttx && $(RT:tools/%=../../tools/%) run < stdin > /dev/null
 	cp $(BUILT) ttx
 
 test:
