@@ -174,21 +174,28 @@ static TEXTS: [(&str, &str, &str); 71] = [
 ];
 
 impl Argument {
+    // Its row of `TEXTS`.
+    fn texts<'a>(self) -> (&'a str, &'a str, &'a str)
+        ensures { result.0.now ≡ rule.id_of self }
+    {
+        TEXTS[self as usize]
+    }
+
     /// Its name.
     pub(crate) fn id<'a>(self) -> &'a str
         ensures { result.now ≡ rule.id_of self }
     {
-        TEXTS[self as usize].0
+        self.texts().0
     }
 
     /// The name of its value in help.
     pub(crate) fn value_name<'a>(self) -> &'a str {
-        TEXTS[self as usize].1
+        self.texts().1
     }
 
     /// Its text in help.
     pub(crate) fn help<'a>(self) -> &'a str {
-        TEXTS[self as usize].2
+        self.texts().2
     }
 
     /// What it takes.
