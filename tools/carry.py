@@ -25,7 +25,7 @@ from quick_rt import run_rt  # noqa: E402
 
 MARK = pathlib.Path("out/carry.json")
 MODULE = re.compile(r"Rattle-\w+-(?:proofs|specs)\.(?:contracts\.|declared\.)?(.*?)(?:\.decls)?\.oantt")
-WORD = re.compile(r"\w+")
+NAME = re.compile(r"[A-Za-z_]\w*")
 KEPT = "kept, as no proof that reads it changed: "
 
 
@@ -75,7 +75,7 @@ def names_more(body):
     """Whether a mutant's new text names something that its file does not name."""
     for path, _, new in edits.steps(body.lines):
         file = pathlib.Path("crates", body.crate, path)
-        if not set(WORD.findall(new)) <= set(WORD.findall(file.read_text())):
+        if not set(NAME.findall(new)) <= set(NAME.findall(file.read_text())):
             return True
     return False
 
