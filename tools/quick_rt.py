@@ -14,6 +14,7 @@ import sys
 import threading
 
 LOADED = "rtlib = load()\n"
+KIT_RT = pathlib.Path(os.path.realpath(shutil.which("rt") or "rt"))
 
 
 def reckon_once(crate):
@@ -44,12 +45,11 @@ def reckon_once(crate):
 def run_rt(name, more=""):
     """Runs the kit's rt as a module of this name, with some lines more behind the one that loads its library `rtlib`. Returns the names that
     it defines; `None` if it has another form than this script knows."""
-    kit = os.path.realpath(shutil.which("rt") or "rt")
-    text = pathlib.Path(kit).read_text(errors="replace") if os.path.isfile(kit) else ""
+    text = KIT_RT.read_text(errors="replace") if KIT_RT.is_file() else ""
     if text.count(LOADED) != 1:
         return None
-    names = {"__name__": name, "__file__": kit, "reckon_once": reckon_once}
-    exec(compile(text.replace(LOADED, f"{LOADED}reckon_once(rtlib.Crate)\n{more}"), kit, "exec"), names)
+    names = {"__name__": name, "__file__": str(KIT_RT), "reckon_once": reckon_once}
+    exec(compile(text.replace(LOADED, f"{LOADED}reckon_once(rtlib.Crate)\n{more}"), str(KIT_RT), "exec"), names)
     return names
 
 
