@@ -26,7 +26,7 @@ use Rattle.ttx_mistakes.specs.LongLines.{Placed, placed}
 use Rattle.ttx_mistakes.specs.LongReports.{stayed_notes, service_notes, notes_of, IsReportBy}
 use Rattle.ttx_mistakes.specs.Mistakes.{Mistake, mistakes}
 use Rattle.ttx_mistakes.specs.Notes.{Note, error_note, error_notes}
-use Rattle.ttx_mistakes.specs.StayNotes.{line_note, page_path, short_notes, unkept_notes, stay_notes}
+use Rattle.ttx_mistakes.specs.StayNotes.{line_note, key_path, short_notes, unkept_notes, stay_notes}
 use Rattle.ttx_mistakes.specs.WarningNotes.{warning_note, ids_of, warning_notes}
 use Rattle.ttx_mistakes.proofs.Sequences.{Reads, Same}
 use Rattle.ttx_mistakes.proofs.WholeTexts.{FaultlessIn, ReadIn, text_same}
@@ -69,7 +69,7 @@ info_warns (Some value) = table_warns (codes "/info") (codes "info") info_keys (
 page_warns : (page : ℕ) (table : Option Members) → AreWarnings (page_notes page table)
 page_warns page None = record { none = refl }
 page_warns page (Some table) =
-    unknown_warn (codes "/page/" ++ decimal page) (codes "page " ++ page_id table page) page_keys table
+    unknown_warn (page_path page) (codes "page " ++ page_id table page) page_keys table
 
 pages_warn : (page : ℕ) (values : Items) → AreWarnings (pages_notes page values)
 pages_warn page no_items = record { none = refl }
@@ -93,12 +93,12 @@ line_warns path (c ∷ line) = record { none = refl }
 short_warn : (pages : List Page) (stays : List PromiseFields) (n : ℕ) → AreWarnings (short_notes pages stays n)
 short_warn pages stays zero = record { none = refl }
 short_warn pages stays (suc n) =
-    both_warn _ _ (short_warn pages stays n) (line_warns (page_path n (codes "/number")) (short_text pages stays n (slice_get pages n)))
+    both_warn _ _ (short_warn pages stays n) (line_warns (key_path n (codes "number")) (short_text pages stays n (slice_get pages n)))
 
 unkept_warn : (lines : ℕ) (pages : List Page) (stays : List PromiseFields) → AreWarnings (unkept_notes lines pages stays)
 unkept_warn lines pages [] = record { none = refl }
 unkept_warn lines pages (stay ∷ stays) =
-    both_warn _ _ (line_warns (page_path stay.page (codes "/stays")) (stay_text lines pages stay)) (unkept_warn lines pages stays)
+    both_warn _ _ (line_warns (key_path stay.page (codes "stays")) (stay_text lines pages stay)) (unkept_warn lines pages stays)
 
 stayed_warn : (service : ServiceFields) (stays : Result (List PromiseFields) (Fault × ℕ)) → AreWarnings (stayed_notes service stays)
 unfolding stay_notes
