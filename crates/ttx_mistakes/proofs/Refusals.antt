@@ -1,13 +1,13 @@
 -- The short report and the long one refuse the same texts.
 use Rattle.std.proofs.Common.{◌≡◌, ◌∙◌, ◌⊎◌, inl, inr, ◌+◌, ◌++◌, ◌||◌, ◌&&◌, ℕ, zero, suc, List, [], ◌∷◌, length, map, codes, Bool, true, false, if◌then◌else◌, nat_lt, Option, Some, None, Result, Ok, Err, ap, sym, refl, arith, slice_get}
 use Rattle.std.specs.List.{list_any}
-use Rattle.std.specs.Fmt.{decimal}
 use Rattle.std.specs.Str.{is_utf8}
 use Rattle.std.proofs.lemmas.List.Folds.{list_any-append}
 use Rattle.toml.specs.Data.{Data, Items, no_items, item, Members, no_members, member, get_member, as_table}
 use Rattle.toml.specs.Parse.{parse_document}
 use Rattle.ttx_header.specs.Ids.{Id}
 use Rattle.ttx_page.specs.Pages.{Page}
+use Rattle.ttx_places.specs.Paths.{page_path}
 use Rattle.ttx_source.specs.Documents.{document_of}
 use Rattle.ttx_source.specs.Promises.{PromiseFields, promises_of, read_promises, read_stays}
 use Rattle.ttx_source.specs.Services.{ServiceFields, pages_of, read_bytes, service_of}
