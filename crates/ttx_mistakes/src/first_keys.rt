@@ -1,6 +1,6 @@
 //! Where a key is first given that a TOML text gives twice.
 
-ghost use Rattle.std.specs.Prelude.{◌≡◌, ◌+◌, ◌≤◌, ◌<◌, ◌++◌, ◌∷◌, [], true, IfOk, OnOk, Option, map, length, string_bytes, suc, false, option_map, option_copied};
+ghost use Rattle.std.specs.Prelude.{◌≡◌, ◌+◌, ◌≤◌, ◌<◌, ◌++◌, ◌∷◌, [], true, IfOk, Option, length, string_bytes, suc, false, option_map, option_copied};
 ghost use Rattle.toml.specs.Parse.{skip_bom};
 ghost use Rattle.toml_parser.specs.Strings.{key, starts_string};
 ghost use Rattle.ttx_mistakes.specs.FirstKeys as rule;
