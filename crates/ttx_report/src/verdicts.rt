@@ -199,9 +199,10 @@ fn push_loss(text: &mut String, class: Class) -> Result<(), AllocError>
 fn push_last(text: &mut String, class: Class) -> Result<(), AllocError>
     ensures { OnOk result (string_bytes text.new ≡ string_bytes text.old ++ rule.last_rows class) }
 {
-    text.push_str("<tr><td>loses page headers</td><td>")?;
+    push_words(text, "<tr><td>loses page headers</td><td>")?;
     push_loss(text, class)?;
-    text.push_str(
+    push_words(
+        text,
         "</td></tr>\n<tr><td>checks a page by its check word</td><td>no</td></tr></table>\n",
     )
 }
