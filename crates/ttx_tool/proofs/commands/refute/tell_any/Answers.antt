@@ -1,4 +1,4 @@
-use Rattle.std.proofs.Common.{◌≡◌, ◌↔◌, [], ◌∷◌, ◌++◌, true, map, codes, is_some, string_bytes, Some, None, subst, arith}
+use Rattle.std.proofs.Common.{◌≡◌, ◌↔◌, [], true, map, is_some, string_bytes, Some, None, subst, arith}
 use Rattle.std.proofs.lemmas.List.{length-map}
 use Rattle.std.proofs.lemmas.Option.{slice_get_within}
 use Rattle.std.specs.Prelude.{slice_get}
