@@ -341,12 +341,13 @@ class Room:
         ran = subprocess.run(words, cwd=self.crate, stdout=subprocess.PIPE, stderr=subprocess.STDOUT, text=True, errors="replace", check=False)
         return ran.returncode, ran.stdout
 
-    def take_answers(self, bodies):
-        """Removes the written proofs of the changed functions, except those that the search needs. Returns whether the crate is still proved."""
+    def take_answers(self, bodies, needed):
+        """Removes the written proofs of the changed functions, except those that the search needs, some of which are known. Returns whether
+        the crate is still proved."""
         taken = {}
         for answers in self.crate.glob("proofs/**/Answers.antt"):
             function = "::".join(answers.parent.relative_to(self.crate / "proofs").parts)
-            if any(is_turned(body, function) for body in bodies):
+            if function not in needed and any(is_turned(body, function) for body in bodies):
                 taken[function] = answers, answers.read_text()
                 answers.unlink()
         while True:
@@ -439,6 +440,10 @@ class Record:
         row = self.rows.get(body.key)
         return row is not None and row[4] == sources_sum and row[5] in ENOUGH
 
+    def needed(self, name):
+        """The functions of the crate whose written proofs the search needed when their mutants were last tried."""
+        return {row[6] for row in self.rows.values() if row[0] == name and row[5] == "refused by an answer"}
+
     def write(self, body, sources_sum, verdict, function, how):
         with self.lock:
             tidy = re.sub(r"\s+", " ", how)[:160]
@@ -468,11 +473,11 @@ def logic():
     return re.search(r"logic (\w+)", told)[1]
 
 
-def try_crate(room, name, bodies, now, record):
+def try_crate(room, name, bodies, now, record, trusts):
     """Tries these mutants of a crate. Returns how many are not refused for want of a proof."""
     room.hold(name)
     over = sum_of_sources(room.known, name, now)
-    if not room.take_answers(bodies):
+    if not room.take_answers(bodies, record.needed(name) if trusts else set()):
         print(f"{name}: not proved as it stands", flush=True)
         return 1
     failed = 0
@@ -492,11 +497,12 @@ def arguments():
     words.add_argument("--anew", action="store_true", help="also what the record has")
     words.add_argument("--joined", action="store_true", help="only mutants that share an edit file")
     words.add_argument("--stale", action="store_true", help="lists the bodies that the record doesn't have as they stand, and tries none")
+    words.add_argument("--trust", action="store_true", help="leaves the answers in place that the search needed at the last trial")
     words.add_argument("--forget", action="store_true", help="drops the lines of mutants that are gone")
     return words.parse_args()
 
 
-def try_stale(stale, known, jobs, now, record):
+def try_stale(stale, known, jobs, now, record, trusts):
     """Tries these mutants in so many rooms. Returns how many are not refused for want of a proof."""
     mine = hashlib.sha256(str(pathlib.Path.cwd()).encode()).hexdigest()[:8]
     top = pathlib.Path(tempfile.gettempdir(), f"ttx-edits-{mine}")
@@ -505,7 +511,7 @@ def try_stale(stale, known, jobs, now, record):
     def work(name, bodies):
         room = rooms.pop()
         try:
-            return try_crate(room, name, bodies, now, record)
+            return try_crate(room, name, bodies, now, record, trusts)
         finally:
             rooms.append(room)
 
@@ -537,7 +543,7 @@ def main():
         print(f"edits: {len(every)} wrong bodies, {len(stale)} not recorded as they stand" + (f": {which} (make edits tries them)" if stale else ""))
         return 1 if wrong else 0
     record.keep(words.crate, {body.key for body in planted}.union(gone))
-    failed = try_stale(stale, known, words.jobs, now, record) if stale else 0
+    failed = try_stale(stale, known, words.jobs, now, record, words.trust) if stale else 0
     weak = [row for body in every if (row := record.rows.get(body.key)) and row[5] not in ENOUGH]
     print(f"edits: {len(every)} wrong bodies, {len(stale)} tried now, {len(weak) + len(wrong)} failed")
     return 1 if failed or weak or wrong else 0
