@@ -7,8 +7,8 @@ copy of the crates. Before that, the written proofs of the changed functions are
 without them. So the mutant is refused by the contract, and not because a proof written for the original body no longer fits.
 
 A function is proved from the contracts of those that it calls, never from their bodies. So mutants of bodies are tried together, one of each
-function, in one check, and each must be refused at the function that it changes. Where that check says nothing of one of them, that one is
-tried alone, as are mutants of definitions, types and constants.
+function, in one check, and each must be refused at the function that it changes. Where that check says nothing of some of them, these are
+tried together again, and in the end alone, as are mutants of definitions, types and constants.
 
 Each result is written to tools/edits.tsv at once, one line for a mutant: the crate, the edit, the heading, the checksums of the mutant and
 of all that it is tried on, the verdict, the refused function or lemma, and how. What it is tried on are the sources of the crate, what
@@ -480,13 +480,17 @@ def try_crate(room, name, bodies, now, record, trusts):
     if not room.take_answers(bodies, record.needed(name) if trusts else set()):
         print(f"{name}: not proved as it stands", flush=True)
         return 1
-    failed = 0
-    for group in rounds(bodies):
-        for body, told in zip(group, room.attempt(group)):
-            verdict, function, how = told or room.attempt([body])[0]
+    failed, groups = 0, rounds(bodies)
+    while groups:
+        group = groups.pop(0)
+        told = list(zip(group, room.attempt(group)))
+        for body, (verdict, function, how) in (it for it in told if it[1]):
             record.write(body, over, verdict, function, how)
             failed += verdict not in ENOUGH
             print(f"{'' if verdict in ENOUGH else 'FAILED '}{name}/{body.edit}: {body.heading}: {verdict} {function}: {how[:100]}", flush=True)
+        # those of which the check said nothing are tried together again, or each alone once that says nothing of any
+        left = [body for body, it in told if not it]
+        groups[:0] = [left] * bool(left) if len(left) < len(group) else [[body] for body in left]
     return failed
 
 
