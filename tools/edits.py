@@ -488,9 +488,10 @@ def try_crate(room, name, bodies, now, record, trusts):
             record.write(body, over, verdict, function, how)
             failed += verdict not in ENOUGH
             print(f"{'' if verdict in ENOUGH else 'FAILED '}{name}/{body.edit}: {body.heading}: {verdict} {function}: {how[:100]}", flush=True)
-        # those of which the check said nothing are tried together again, or each alone once that says nothing of any
+        # those of which the check said nothing are tried together again, or in halves once that says nothing of any
         left = [body for body, it in told if not it]
-        groups[:0] = [left] * bool(left) if len(left) < len(group) else [[body] for body in left]
+        half = len(left) // 2 if len(left) == len(group) else 0
+        groups[:0] = [it for it in (left[:half], left[half:]) if it]
     return failed
 
 
