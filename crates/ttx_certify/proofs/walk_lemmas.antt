@@ -1,8 +1,5 @@
 pub mod ChangedPlaces
-pub mod SmallProgress
-pub mod PackedTracks
-pub mod NamedSlots
-pub mod ChangedTracks
+pub mod SentPlaces
 pub mod ChangedFacts
 pub mod BeforeFirstSlot
 pub mod GrowingLists

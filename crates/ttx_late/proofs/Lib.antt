@@ -8,6 +8,5 @@ pub mod RunsAreShown
 mod AcceptedIsShown
 mod FollowersOfCycles
 mod GreatestGap
-mod SomeGap
 mod NeverFollowed
 pub mod LateVerdicts

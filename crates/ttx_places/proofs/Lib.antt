@@ -1,5 +1,3 @@
 mod Turns
 mod Columns
 mod LastLine
-mod PartsOfPaths
-mod Escapes

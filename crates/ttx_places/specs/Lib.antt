@@ -1,4 +1,3 @@
-pub mod Laws
 pub mod Paths
 pub mod Places
 pub mod Positions

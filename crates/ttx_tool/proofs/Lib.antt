@@ -19,4 +19,3 @@ mod MonitoredFeeds
 mod ShownFile
 mod CertificateLengths
 mod NamedSlots
-mod AskedFiles

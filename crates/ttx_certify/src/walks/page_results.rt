@@ -7,16 +7,15 @@ ghost use Rattle.ttx_page.specs.Views.{page_of};
 ghost use Rattle.ttx_witness.specs.faults.OtherSubpages as tables;
 
 use crate::walks::other_headers::OtherHeaders;
-use crate::walks::packed_tracks::unpack_track;
 use crate::walks::page_facts::{Facts, late_of};
-use crate::walks::progress::finish;
-use crate::walks::tracks::{Tracks, repeat_of};
+use crate::walks::progress::{finish, take_all};
+use crate::walks::sent_slots::SentSlots;
 use ttx_certificate::{Certificate, limit};
 use ttx_header::PageId;
 use ttx_page::Page;
 use ttx_witness::first_slots::{least_fault, with_other_subpage};
 use ttx_witness::subcodes::place;
-use ttx_witness::{Progress, Reason, item_of};
+use ttx_witness::{Progress, Reason, item_of, nothing_confirmed, run_length};
 
 /// What a cycle of `period` slots sends of the pages, with a certificate. `bad` is the first bad slot.
 #[derive(Drop)]
@@ -26,7 +25,7 @@ pub struct EndedWalk<'a> {
     pub period: u32,
     pub bad: Option<u32>,
     pub(crate) others: OtherHeaders,
-    pub(crate) tracks: Tracks,
+    pub(crate) sent: SentSlots,
     pub(crate) facts: Vec<Facts>,
 }
 
@@ -94,17 +93,19 @@ impl<'a> EndedWalk<'a> {
             starts.now ≡ (ended_certificate self.now).starts p.id item →
             IsProgress y p (ended_certificate self.now) item result }
     {
+        ttx_certificate::certificate_laws::certificates_keep_their_rules();
         ttx_witness::judging_laws::transmissions_are_listed();
         if starts.is_empty() {
             return None;
         }
-        let Some(packed) = self.tracks.track(index, number) else {
+        if index >= self.sent.firsts.len() / 26 {
             return None;
-        };
+        }
         let item = item_of(number);
+        let place = 26 * index + usize::from(number);
         let limit = limit(self.certificate);
-        let repeat = repeat_of(self.certificate, &item);
-        let mut track = unpack_track(&packed, repeat);
+        let mut track = nothing_confirmed(run_length(self.certificate.repeat(), &item));
+        take_all(&mut track, &self.sent, place, starts, limit);
         finish(&mut track, self.period, starts, limit);
         Some(track.progress)
     }
