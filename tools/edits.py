@@ -485,6 +485,7 @@ def try_crate(room, name, bodies, now, record, trusts):
         group = groups.pop(0)
         told = list(zip(group, room.attempt(group)))
         for body, (verdict, function, how) in (it for it in told if it[1]):
+            how = f"(--trust) {how}" if trusts and verdict == "refused by an answer" else how
             record.write(body, over, verdict, function, how)
             failed += verdict not in ENOUGH
             print(f"{'' if verdict in ENOUGH else 'FAILED '}{name}/{body.edit}: {body.heading}: {verdict} {function}: {how[:100]}", flush=True)
