@@ -32,6 +32,10 @@ def value_text(value):
     return str(value)
 
 
+def key_text(key):
+    return key if re.fullmatch("[A-Za-z0-9_-]+", key) else f'"{key}"'
+
+
 class Text:
     """A text, and the places of its values. The key at the path `twice` is given again at the end of its table; `given` has both places."""
 
@@ -50,7 +54,7 @@ class Text:
     def again(self, path, before, words, after):
         if self.twice and self.twice[:-1] == path and self.given:
             self.add(before)
-            self.key(self.twice, f"{words}{self.twice[-1]} = 1{after}")
+            self.key(self.twice, f"{words}{key_text(self.twice[-1])} = 1{after}")
 
     def value(self, path, value, inline):
         self.places[path] = len(self.text)
@@ -58,7 +62,7 @@ class Text:
             self.add("{")
             for at, (key, inner) in enumerate(value.items()):
                 self.add(", " if at else " ")
-                self.key((*path, key), key + " = ")
+                self.key((*path, key), key_text(key) + " = ")
                 self.value((*path, key), inner, inline)
             self.again(path, ", ", "", "")
             self.add(" }")
@@ -75,12 +79,12 @@ class Text:
         for key, value in table.items():
             if isinstance(value, dict) and value and random.random() < below:
                 for inner, text in value.items():
-                    self.key((*path, key, inner), f"{key} . {inner} = ")
+                    self.key((*path, key, inner), f"{key_text(key)} . {key_text(inner)} = ")
                     self.value((*path, key, inner), text, True)
                     self.add("\n")
                 self.again((*path, key), "", f"{key}.", "\n")
                 continue
-            self.key((*path, key), f"{key}{random.choice(['=', ' = '])}")
+            self.key((*path, key), f"{key_text(key)}{random.choice(['=', ' = '])}")
             self.value((*path, key), value, True)
             self.add(random.choice(["\n", " # 'a' remark\n", "\n\n"]))
         self.again(path, "", "", "\n")
@@ -354,8 +358,9 @@ def mistake(service):
         page["links"] = ["100/0080"]
         return (*path, "links", 1), f"{name} link 1", "this is no subcode"
     if kind == 8:
-        page["rows"] = {"25": ""}
-        return (*path, "rows", "25"), f"{name} row 25", "rows is out of range: it takes a table of texts of at most 40 characters at keys from \"1\" to \"24\""
+        row = random.choice(["25", "2/5", "~1"])
+        page["rows"] = {row: ""}
+        return (*path, "rows", row), f"{name} row {row}", "rows is out of range: it takes a table of texts of at most 40 characters at keys from \"1\" to \"24\""
     if kind == 9:
         del page["number"]
         return path, f"page {at + 1}", "number is missing: it takes a text: a page number as \"100\""
@@ -402,7 +407,7 @@ def long_is_wrong(program, given, want):
     if want.startswith("warning "):
         return status != 1 or [f"warning {words}" for *_place, words in notes] != want.split("\n")[:-1]
     line, column, words = re.fullmatch(r"line (\d+) column (\d+) (.*)\n", want).groups()
-    first = notes[0]
+    first = next(note for note in notes if note[2] == "error")
     # the long report is at the character that is wrong, and says more about it
     return status != 2 or first[0] != int(line) or first[1] < int(column) or first[2] != "error" or not first[3].startswith(words)
 
@@ -453,6 +458,9 @@ def main():
         runs = [(text.text, (0, wanted, ""))]
         if service.get("page"):
             path, label, words = mistake(service)
+            if len(path) > 1 and random.random() < 0.3:
+                # a key whose name has the slashes of the path
+                service["/".join(map(str, path))] = 1
             text = written(service, random.random() < 0.3)
             runs.append((text.text, (2, text.line(path, label, words), "")))
         failed += twice_is_wrong(program, service)

@@ -18,7 +18,6 @@ DECODERS = (
         "if one of K successive transmissions of a row arrives whole, K being the repeat count",
     ),
     ("stores characters whatever their parity", "if no row arrives with a wrong character"),
-    ("loses page headers", "right again a deadline after the last loss"),
     ("checks a page by its check word", "no"),
 )
 
@@ -64,6 +63,13 @@ def table(*rows):
     return "".join(lines + ["<tr>" + "".join(f"<td>{cell}</td>" for cell in row) + "</tr>\n" for row in rest])
 
 
+def decoders(clears):
+    """What a yes covers, by the class of the certificate: of a decoder that surely clears, nothing is known after a page header is lost."""
+    *rows, last = DECODERS
+    again = "only with a certificate of class any" if clears else "right again a deadline after the last loss"
+    return *rows, ("loses page headers", again), last
+
+
 def meaning(yes, numbers, pages):
     receivers = "every receiver that keeps the rules" + " and surely clears what it holds when a page is selected" * numbers.clears
     shows = (
@@ -105,7 +111,7 @@ def document(numbers, found, inputs, version, date=None):
         f"<title>{TITLE}</title><style>\n{STYLE}\n</style></head><body><main><h1>{TITLE}</h1>\n"
         + (f"<p>{date}</p>\n" if date else "")
         + f"<h2>Verdict</h2>\n<p><code>{found.line}</code></p>\n<p>{meaning(yes, numbers, len(waits))}</p>\n<p>{assumed(numbers)}</p>\n"
-        + "<h2>To which decoders</h2>\n" + table(("A decoder that", "is covered by a yes"), *DECODERS).rstrip("\n") + "</table>\n"
+        + "<h2>To which decoders</h2>\n" + table(("A decoder that", "is covered by a yes"), *decoders(numbers.clears)).rstrip("\n") + "</table>\n"
         + "<h2>How long a viewer waits</h2>\n"
         + table(("Page", "Longest wait, and for what", "Promise"), *waits, ("all", found.last, "")).rstrip("\n") + "</table>\n"
         + f"<h2>On the air and not in the service text</h2>\n<p>{others}</p>\n"

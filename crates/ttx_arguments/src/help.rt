@@ -154,7 +154,8 @@ time for each page), or that receivers that show a page late show it in time
 pub(crate) const CERTIFY_MORE: &str =
     "Reads CYCLE, SERVICE and CERT, in this order, to their ends. With --twice it
 reads SERVICE, CERT, CYCLE and CYCLE again; memory then does not grow with the
-cycle, and CYCLE cannot be -. Writes the verdict to standard output, one of
+cycle, and CYCLE cannot be -. With --late it reads CYCLE once all the same, and
+memory grows with it. Writes the verdict to standard output, one of
   yes lines L repeat K deadline D pages N
                      with class clearing at its end for a certificate of that
                      class
@@ -661,7 +662,7 @@ Statuses:
      refused: service NUMBER NAME [KEY] page N (what is sent is not a service; N
      counts its pages in order),
      refused: service too-long,
-     refused: unsaid (no service text says what is sent, for another reason)
+     refused: unsaid (the text, read back, is not what is sent)
   3  fault: file, fault: read, fault: write, fault: memory";
 
 pub(crate) const CHECK_MORE: &str =
@@ -898,8 +899,8 @@ rounded down to fields of 0.02 s";
 pub(crate) const AIR_AT_OPTION: &str = "When the first field is sent, see ttx send --help
 [default: now]";
 
-pub(crate) const AIR_FIELDS_OPTION: &str = "How many fields to send, 0 to 4294967295; without it,
-there is no end";
+pub(crate) const AIR_FIELDS_OPTION: &str = "How many fields to send, 0 to 4294967295
+[default: 4294967295, which takes 2.7 years]";
 
 pub(crate) const AIR_LATE_OPTION: &str = "Plan and judge also for receivers that may show a page
 late; so it is without --at-once";

@@ -265,7 +265,7 @@ pub struct AirOrder<'a> {
     pub within: Fields,
     pub repeat: Repeat,
     pub timing: Timing<'a>,
-    /// How many fields are sent; without it, there is no end.
+    /// How many fields are sent; without it, 4,294,967,295.
     pub fields: Option<u32>,
     /// Also for receivers that may show pages late.
     pub late: bool,

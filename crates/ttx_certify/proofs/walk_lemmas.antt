@@ -1,5 +1,8 @@
 pub mod ChangedPlaces
-pub mod SentPlaces
+pub mod SmallProgress
+pub mod PackedTracks
+pub mod NamedSlots
+pub mod ChangedTracks
 pub mod ChangedFacts
 pub mod BeforeFirstSlot
 pub mod GrowingLists

@@ -1,5 +1,5 @@
 pub mod PageFacts
-pub mod SentSlots
+pub mod PackedTracks
 pub mod ItemProgress
 pub mod EarlierOwners
 pub mod Passing

@@ -12,6 +12,7 @@ use Rattle.std.specs.Str.{bytes_eq}
 use Rattle.toml.specs.Data.{Data, Items, no_items, item, Members, no_members, member, get_member, as_str, as_array, as_table}
 use Rattle.ttx_source.specs.Values.{Fault, not_toml, missing, wrong_kind, wrong_page_number, wrong_subcode, duplicate, too_long, wrong_character}
 use Rattle.ttx_source.specs.Values.{wrong_often, out_of_range, no_memory, ◌>>=◌, required, with_default, page_number, subcode}
+use Rattle.ttx_places.specs.Paths.{below}
 use Rattle.ttx_source.specs.Keys.{head, row_of, row_keys, is_row_key, link_of, zeros}
 
 pub data Part : Type 0 where
@@ -20,12 +21,12 @@ pub data Part : Type 0 where
   at_row : (key : List ℕ) → Part
   at_link : (number : ℕ) → Part
 
--- the path below that of the page
-abbrev pub part_path : Part → List ℕ
-part_path whole = []
-part_path (at_key key) = codes "/" ++ key
-part_path (at_row key) = codes "/rows/" ++ key
-part_path (at_link number) = codes "/links/" ++ decimal number
+-- given the path of the page
+abbrev pub part_path : List ℕ → Part → List ℕ
+part_path path whole = path
+part_path path (at_key key) = below path key
+part_path path (at_row key) = below (below path (codes "rows")) key
+part_path path (at_link number) = below (below path (codes "links")) (decimal number)
 
 -- the name after that of the page
 abbrev pub part_name : Part → List ℕ

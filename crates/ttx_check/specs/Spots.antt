@@ -9,6 +9,7 @@ use Rattle.std.specs.Prelude.{◌≡◌, ℕ, ◌-◌, Bool, true, false, ◌||�
 use Rattle.std.specs.Fmt.{decimal}
 use Rattle.std.specs.Str.{chars}
 use Rattle.toml.specs.Data.{Members, get_member, get_item}
+use Rattle.ttx_places.specs.Paths.{below, page_path}
 use Rattle.ttx_source.specs.Accepted.{accepted_at}
 use Rattle.ttx_source.specs.Keys.{zeros}
 use Rattle.ttx_source.specs.Values.{Fault, not_toml, missing, wrong_kind, wrong_page_number, wrong_subcode, duplicate, too_long, wrong_character}
@@ -43,7 +44,7 @@ is_missing (missing key) = true
 is_missing _ = false
 
 abbrev pub service_path : Fault → List ℕ
-service_path fault = key_table (service_key fault) ++ (if is_missing fault then [] else codes "/" ++ service_key fault)
+service_path fault = if is_missing fault then key_table (service_key fault) else below (key_table (service_key fault)) (service_key fault)
 
 abbrev pub service_name : List ℕ → List ℕ
 service_name key = if is_one_of service_keys key then key else codes "info " ++ key
@@ -60,7 +61,7 @@ page_id members page =
 
 abbrev pub path_in : Fault → ℕ → Option Members → List ℕ
 path_in fault page None = service_path fault
-path_in fault page (Some members) = codes "/page/" ++ decimal page ++ part_path (part_of fault members)
+path_in fault page (Some members) = part_path (page_path page) (part_of fault members)
 
 abbrev pub spot_path : Members → Fault → ℕ → List ℕ
 spot_path table fault page = path_in fault page (page_table table page)

@@ -16,6 +16,7 @@ use crate::unknown_keys::{is_one_of, service_names};
 use std::alloc::{AllocError, Global};
 use toml::{Table, Value};
 use ttx_digits::push_decimal;
+use ttx_places::{page_path, push_number, push_part};
 use ttx_source::keys::accepted;
 use ttx_source::{SourceError, SourceFault};
 
@@ -90,7 +91,7 @@ fn push_service_path(path: &mut String, fault: SourceFault) -> Result<(), AllocE
     if is_missing(fault) {
         Ok(())
     } else {
-        push_both(path, "/", key)
+        push_part(path, key)
     }
 }
 
@@ -107,15 +108,18 @@ pub fn push_service_name(name: &mut String, key: &str) -> Result<(), AllocError>
 
 /// Adds the path to a part of a page, after that of the page.
 pub fn push_part_path(path: &mut String, part: Part<'_>) -> Result<(), AllocError>
-    ensures { OnOk result (string_bytes path.new ≡ string_bytes path.old ++ part_path (part_view part.entry)) }
+    ensures { OnOk result (string_bytes path.new ≡ part_path (string_bytes path.old) (part_view part.entry)) }
 {
     match part {
         Part::Whole => Ok(()),
-        Part::Key(key) => push_both(path, "/", key),
-        Part::Row(key) => push_both(path, "/rows/", key),
+        Part::Key(key) => push_part(path, key),
+        Part::Row(key) => {
+            push_part(path, "rows")?;
+            push_part(path, key)
+        }
         Part::Link(number) => {
-            path.push_str("/links/")?;
-            push_decimal(path, number)
+            push_part(path, "links")?;
+            push_number(path, number)
         }
     }
 }
@@ -167,12 +171,11 @@ pub fn push_page_id(name: &mut String, page: &Table, order: usize) -> Result<(),
 }
 
 // The path to a part of a page.
-fn page_path(alloc: Global, page: &Table, error: &SourceError) -> Result<String, AllocError>
+fn path_in_page(alloc: Global, page: &Table, error: &SourceError) -> Result<String, AllocError>
     ensures { IfOk result (λ path. string_bytes path
         ≡ rule.path_in (fault_of error.now.fault) error.now.page (Some (table_view page.now))) }
 {
-    let mut path = String::from_str(alloc, "/page/")?;
-    push_decimal(&mut path, error.page)?;
+    let mut path = page_path(alloc, error.page)?;
     push_part_path(&mut path, part_of(page, error.fault))?;
     Ok(path)
 }
@@ -193,7 +196,7 @@ fn path_in(alloc: Global, page: Option<&Table>, error: &SourceError) -> Result<S
 {
     match page {
         None => service_path(alloc, error.fault),
-        Some(page) => page_path(alloc, page, error),
+        Some(page) => path_in_page(alloc, page, error),
     }
 }
 

@@ -6,10 +6,11 @@
 --   mistake_path            the path of the value that a mistake is in
 --   character_place         the place of a character of a text
 --   place_behind, IsPlace   the place of a mistake
-use Rattle.std.specs.Prelude.{◌≡◌, ℕ, zero, suc, ◌+◌, ◌-◌, Bool, true, false, ◌&&◌, ◌||◌, not, ◌==◌, nat_le, List, [], ◌++◌, codes, length, drop, slice_index}
+use Rattle.std.specs.Prelude.{◌≡◌, ℕ, zero, suc, ◌+◌, ◌-◌, Bool, true, false, ◌&&◌, ◌||◌, not, ◌==◌, nat_le, List, codes, length, drop, slice_index}
 use Rattle.std.specs.Prelude.{Option, Some, None, unwrap_or, if◌then◌else◌}
 use Rattle.std.specs.List.{position}
 use Rattle.std.specs.Fmt.{decimal}
+use Rattle.ttx_places.specs.Paths.{below, page_path}
 use Rattle.ttx_places.specs.Places.{place_of}
 use Rattle.ttx_desk.specs.declared.mistakes.Mistake.{Mistake}
 use Rattle.ttx_desk.specs.declared.mistakes.Part.{Part}
@@ -88,15 +89,16 @@ character_place file mark feeds index =
     let inner = inner_text (drop mark file) in
     place_or (length file) mark (sign_left (length inner) (slice_index file mark == 0x22) feeds index inner)
 
-abbrev pub part_path : Part → List ℕ
-part_path TheOption = codes "/option"
-part_path Head = codes "/head"
-part_path Status = codes "/text"
-part_path (Row number) = codes "/rows/" ++ decimal number
-part_path (Line number) = codes "/rows/text"
+-- given the path of the page, or of `info`
+abbrev pub part_path : List ℕ → Part → List ℕ
+part_path path TheOption = below path (codes "option")
+part_path path Head = below path (codes "head")
+part_path path Status = below path (codes "text")
+part_path path (Row number) = below (below path (codes "rows")) (decimal number)
+part_path path (Line number) = below (below path (codes "rows")) (codes "text")
 
 abbrev pub mistake_path : Mistake → List ℕ
-mistake_path mistake = (if mistake.page == 0 then codes "/info" else codes "/page/" ++ decimal mistake.page) ++ part_path mistake.part
+mistake_path mistake = part_path (if mistake.page == 0 then codes "/info" else page_path mistake.page) mistake.part
 
 -- line 1 of `text` comes after no line feed
 abbrev pub feeds_before : Part → ℕ

@@ -1,14 +1,14 @@
 //! The place of a character of a value in an author's text.
 
-ghost use Rattle.std.specs.Prelude.{◌≡◌, ◌++◌, not, drop, length, slice_index, Some, IfOk, OnOk, string_bytes};
+ghost use Rattle.std.specs.Prelude.{◌≡◌, ◌==◌, if◌then◌else◌, not, codes, drop, length, slice_index, Some, IfOk, OnOk, string_bytes};
 ghost use Rattle.std.specs.List.{position};
+ghost use Rattle.ttx_places.specs.Paths.{page_path};
 ghost use Rattle.ttx_places.specs.Places.{place_of};
 ghost use Rattle.ttx_desk.specs.Places as rule;
 
 use crate::mistakes::{Mistake, Part};
 use std::alloc::{AllocError, Global};
-use ttx_digits::push_decimal;
-use ttx_places::place_of;
+use ttx_places::{page_path, place_of, push_number, push_part};
 
 /// The sign that a text begins with: how many bytes it has, whether it is a character, and whether it is a line feed.
 #[derive(Clone, Copy)]
@@ -210,19 +210,33 @@ fn character_place(file: &[u8], mark: usize, feeds: usize, index: usize) -> usiz
     }
 }
 
-// Adds the path of a part of a page, or of `info`.
-fn push_part(path: &mut String, part: Part) -> Result<(), AllocError>
-    ensures { OnOk result (string_bytes path.new ≡ string_bytes path.old ++ rule.part_path part) }
+// Adds a part to the path of its page, or of `info`.
+fn push_mistaken(path: &mut String, part: Part) -> Result<(), AllocError>
+    ensures { OnOk result (string_bytes path.new ≡ rule.part_path (string_bytes path.old) part) }
 {
     match part {
-        Part::Option => path.push_str("/option"),
-        Part::Head => path.push_str("/head"),
-        Part::Status => path.push_str("/text"),
-        Part::Line { .. } => path.push_str("/rows/text"),
-        Part::Row { number } => {
-            path.push_str("/rows/")?;
-            push_decimal(path, number)
+        Part::Option => push_part(path, "option"),
+        Part::Head => push_part(path, "head"),
+        Part::Status => push_part(path, "text"),
+        Part::Line { .. } => {
+            push_part(path, "rows")?;
+            push_part(path, "text")
         }
+        Part::Row { number } => {
+            push_part(path, "rows")?;
+            push_number(path, number)
+        }
+    }
+}
+
+// The path of a page, or of `info`.
+fn table_path(alloc: Global, page: usize) -> Result<String, AllocError>
+    ensures { IfOk result (λ path. string_bytes path ≡ (if page == 0 then codes "/info" else page_path page)) }
+{
+    if page == 0 {
+        String::from_str(alloc, "/info")
+    } else {
+        page_path(alloc, page)
     }
 }
 
@@ -230,14 +244,8 @@ fn push_part(path: &mut String, part: Part) -> Result<(), AllocError>
 fn mistake_path(alloc: Global, mistake: &Mistake) -> Result<String, AllocError>
     ensures { IfOk result (λ path. string_bytes path ≡ rule.mistake_path mistake.now) }
 {
-    let mut path = String::new(alloc);
-    if mistake.page == 0 {
-        path.push_str("/info")?;
-    } else {
-        path.push_str("/page/")?;
-        push_decimal(&mut path, mistake.page)?;
-    }
-    push_part(&mut path, mistake.part)?;
+    let mut path = table_path(alloc, mistake.page)?;
+    push_mistaken(&mut path, mistake.part)?;
     Ok(path)
 }
 

@@ -8,5 +8,6 @@ pub mod RunsAreShown
 mod AcceptedIsShown
 mod FollowersOfCycles
 mod GreatestGap
+mod SomeGap
 mod NeverFollowed
 pub mod LateVerdicts

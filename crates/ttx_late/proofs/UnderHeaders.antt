@@ -24,7 +24,7 @@ pub none_more : (s : Stream) (mag : ℕ) (P : ℤ → Type 0) (j k : ℤ) → k 
 none_more s mag P j k next none here i from to = elim (cases_ltz i j) as (λ _. heads mag (packet_of (s i)) ≡ false)
     [ inl lt ↦ none i from lt | inr ge ↦ let e : j ≡ i = omega (arith, ints) in subst (λ z. heads mag (packet_of (s z)) ≡ false) e here ]
 
-another_heads : (page : Id) (pkt : Packet) → heads_another page pkt ≡ true → heads page.mag pkt ≡ true
+pub another_heads : (page : Id) (pkt : Packet) → heads_another page pkt ≡ true → heads page.mag pkt ≡ true
 another_heads page pkt h = grind arith
 
 -- the header that follows is not before a slot up to which there is none

@@ -5,6 +5,7 @@
 --   AcceptedIsShown         each page of an accepted cycle that is followed by another page number is seen on receivers that show it late
 --   NeverFollowedIsUnshown  a page that is never followed is never shown by some such receiver
 --   EachListRunsLate        such receivers have a run over every list of slots
+--   SomeGapIsGreatest       if each page of a cycle is followed by another page number, some gap is the greatest one
 use Rattle.std.specs.Prelude.{◌≡◌, ℕ, ◌<◌, ◌≤◌, ℤ, pos, ◌+ℤ◌, ◌≤ℤ◌, true, false, List, length, slice_get, Some}
 use Rattle.ttx_packet.specs.Slots.{IsSlot, is_clean}
 use Rattle.ttx_header.specs.Ids.{Id}
@@ -22,6 +23,7 @@ use Rattle.ttx_cycle.specs.Files.{IsCycle}
 use Rattle.ttx_witness.specs.Coverage.{Certificate, IsCertificate, Accepts}
 use Rattle.ttx_certify.specs.Seen.{HasView}
 use Rattle.ttx_certify.specs.Laws.{ArePages}
+use Rattle.ttx_late.specs.Followed.{AllAreFollowed, IsGreatestGap}
 use Rattle.ttx_late.specs.LateReceivers.{LateMemory, LateRun}
 use Rattle.ttx_late.specs.SeenLate.{SeenLate}
 
@@ -68,3 +70,7 @@ abbrev pub EachListRunsLate : Type 0
 EachListRunsLate =
     (class : Class) (lines : ℕ) (sel : Selection) (d : LateMemory) (received : List (List ℕ)) →
     (new : LateMemory) × LateRun class lines sel d received new
+
+abbrev pub SomeGapIsGreatest : Type 0
+SomeGapIsGreatest =
+    (cycle : List (List ℕ)) (pages : List Page) → 0 < length cycle → AllAreFollowed cycle pages → (gap : ℕ) × IsGreatestGap cycle pages gap

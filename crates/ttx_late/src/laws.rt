@@ -1,6 +1,7 @@
 //! Laws of receivers that show a page late. A call does nothing at run time, and gives the law to the caller's proof.
 
 ghost use Rattle.ttx_late.specs.Laws.{RunsAreShown, FollowedIsWithin, AcceptedIsShown, NeverFollowedIsUnshown, EachListRunsLate};
+ghost use Rattle.ttx_late.specs.Laws.{SomeGapIsGreatest};
 
 /// In any stream: if each needed item comes between two slots, the page is shown soon after the second slot.
 pub fn runs_are_shown()
@@ -44,3 +45,11 @@ pub fn never_followed_is_unshown()
 pub fn each_list_runs_late()
     ensures { EachListRunsLate }
 {}
+
+/// If each page of a cycle is followed by another page number, some gap is the greatest one.
+pub fn some_gap_is_greatest()
+    ensures { SomeGapIsGreatest }
+{
+    ttx_page::laws::each_slot_turns();
+    ttx_page::laws::streams_move();
+}

@@ -1,13 +1,13 @@
 -- The short report and the long one refuse the same texts.
 use Rattle.std.proofs.Common.{◌≡◌, ◌∙◌, ◌⊎◌, inl, inr, ◌+◌, ◌++◌, ◌||◌, ◌&&◌, ℕ, zero, suc, List, [], ◌∷◌, length, map, codes, Bool, true, false, if◌then◌else◌, nat_lt, Option, Some, None, Result, Ok, Err, ap, sym, refl, arith, slice_get}
 use Rattle.std.specs.List.{list_any}
-use Rattle.std.specs.Fmt.{decimal}
 use Rattle.std.specs.Str.{is_utf8}
 use Rattle.std.proofs.lemmas.List.Folds.{list_any-append}
 use Rattle.toml.specs.Data.{Data, Items, no_items, item, Members, no_members, member, get_member, as_table}
 use Rattle.toml.specs.Parse.{parse_document}
 use Rattle.ttx_header.specs.Ids.{Id}
 use Rattle.ttx_page.specs.Pages.{Page}
+use Rattle.ttx_places.specs.Paths.{page_path}
 use Rattle.ttx_source.specs.Documents.{document_of}
 use Rattle.ttx_source.specs.Promises.{PromiseFields, promises_of, read_promises, read_stays}
 use Rattle.ttx_source.specs.Services.{ServiceFields, pages_of, read_bytes, service_of}
@@ -26,7 +26,7 @@ use Rattle.ttx_mistakes.specs.LongLines.{Placed, placed}
 use Rattle.ttx_mistakes.specs.LongReports.{stayed_notes, service_notes, notes_of, IsReportBy}
 use Rattle.ttx_mistakes.specs.Mistakes.{Mistake, mistakes}
 use Rattle.ttx_mistakes.specs.Notes.{Note, error_note, error_notes}
-use Rattle.ttx_mistakes.specs.StayNotes.{line_note, page_path, short_notes, unkept_notes, stay_notes}
+use Rattle.ttx_mistakes.specs.StayNotes.{line_note, key_path, short_notes, unkept_notes, stay_notes}
 use Rattle.ttx_mistakes.specs.WarningNotes.{warning_note, ids_of, warning_notes}
 use Rattle.ttx_mistakes.proofs.Sequences.{Reads, Same}
 use Rattle.ttx_mistakes.proofs.WholeTexts.{FaultlessIn, ReadIn, text_same}
@@ -69,7 +69,7 @@ info_warns (Some value) = table_warns (codes "/info") (codes "info") info_keys (
 page_warns : (page : ℕ) (table : Option Members) → AreWarnings (page_notes page table)
 page_warns page None = record { none = refl }
 page_warns page (Some table) =
-    unknown_warn (codes "/page/" ++ decimal page) (codes "page " ++ page_id table page) page_keys table
+    unknown_warn (page_path page) (codes "page " ++ page_id table page) page_keys table
 
 pages_warn : (page : ℕ) (values : Items) → AreWarnings (pages_notes page values)
 pages_warn page no_items = record { none = refl }
@@ -93,12 +93,12 @@ line_warns path (c ∷ line) = record { none = refl }
 short_warn : (pages : List Page) (stays : List PromiseFields) (n : ℕ) → AreWarnings (short_notes pages stays n)
 short_warn pages stays zero = record { none = refl }
 short_warn pages stays (suc n) =
-    both_warn _ _ (short_warn pages stays n) (line_warns (page_path n (codes "/number")) (short_text pages stays n (slice_get pages n)))
+    both_warn _ _ (short_warn pages stays n) (line_warns (key_path n (codes "number")) (short_text pages stays n (slice_get pages n)))
 
 unkept_warn : (lines : ℕ) (pages : List Page) (stays : List PromiseFields) → AreWarnings (unkept_notes lines pages stays)
 unkept_warn lines pages [] = record { none = refl }
 unkept_warn lines pages (stay ∷ stays) =
-    both_warn _ _ (line_warns (page_path stay.page (codes "/stays")) (stay_text lines pages stay)) (unkept_warn lines pages stays)
+    both_warn _ _ (line_warns (key_path stay.page (codes "stays")) (stay_text lines pages stay)) (unkept_warn lines pages stays)
 
 stayed_warn : (service : ServiceFields) (stays : Result (List PromiseFields) (Fault × ℕ)) → AreWarnings (stayed_notes service stays)
 unfolding stay_notes

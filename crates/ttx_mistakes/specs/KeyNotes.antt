@@ -4,16 +4,16 @@
 --   table_notes, page_notes, pages_notes    those about a value, about the table of a page, about those of all pages
 --   key_notes               those about a text
 use Rattle.std.specs.Prelude.{ℕ, ◌+◌, false, if◌then◌else◌, List, [], ◌∷◌, ◌++◌, codes, Option, Some, None}
-use Rattle.std.specs.Fmt.{decimal}
 use Rattle.toml.specs.Data.{Data, Items, no_items, item, Members, no_members, member, get_member, as_table}
 use Rattle.ttx_check.specs.Parts.{items_in}
 use Rattle.ttx_check.specs.Spots.{page_id}
 use Rattle.ttx_check.specs.UnknownKeys.{is_one_of, service_keys, info_keys, page_keys, key_words}
+use Rattle.ttx_places.specs.Paths.{below, page_path}
 use Rattle.ttx_mistakes.specs.Notes.{Note, note}
 
 -- a key of the table with this path and this name, whose known keys are these names
 abbrev pub key_note : List ℕ → List ℕ → List (List ℕ) → List ℕ → Note
-key_note path place names key = note false (path ++ codes "/" ++ key) None (place ++ key_words names key)
+key_note path place names key = note false (below path key) None (place ++ key_words names key)
 
 abbrev pub unknown_notes : List ℕ → List ℕ → List (List ℕ) → Members → List Note
 unknown_notes path place names no_members = []
@@ -31,7 +31,7 @@ info_notes (Some value) = table_notes (codes "/info") (codes "info") info_keys (
 -- the page with this number in the text
 abbrev pub page_notes : ℕ → Option Members → List Note
 page_notes page None = []
-page_notes page (Some table) = unknown_notes (codes "/page/" ++ decimal page) (codes "page " ++ page_id table page) page_keys table
+page_notes page (Some table) = unknown_notes (page_path page) (codes "page " ++ page_id table page) page_keys table
 
 abbrev pub pages_notes : ℕ → Items → List Note
 pages_notes page no_items = []

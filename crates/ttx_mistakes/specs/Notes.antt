@@ -11,6 +11,7 @@ use Rattle.std.specs.Fmt.{decimal}
 use Rattle.std.specs.List.{list_any}
 use Rattle.std.specs.Str.{bytes_eq, chars}
 use Rattle.toml.specs.Data.{Members, get_member, get_item}
+use Rattle.ttx_places.specs.Paths.{below, page_path}
 use Rattle.ttx_source.specs.Values.{Fault, not_toml, missing, wrong_kind, wrong_page_number, wrong_subcode, duplicate, too_long, wrong_character}
 use Rattle.ttx_source.specs.Values.{wrong_often, out_of_range, no_memory}
 use Rattle.ttx_check.specs.Parts.{Part, whole, at_key, at_row, at_link, part_path, part_name, text_in, table_in, items_in}
@@ -37,10 +38,10 @@ key_of (at_row key) = key
 key_of (at_link number) = []
 
 abbrev pub outside_path : List ℕ → Fault → List ℕ
-outside_path key fault = key_table key ++ (if is_missing fault then [] else codes "/" ++ key)
+outside_path key fault = if is_missing fault then key_table key else below (key_table key) key
 
 abbrev pub inside_path : ℕ → Part → Fault → List ℕ
-inside_path page part fault = codes "/page/" ++ decimal page ++ (if is_missing fault then [] else part_path part)
+inside_path page part fault = if is_missing fault then page_path page else part_path (page_path page) part
 
 unfoldable pub note_path : ℕ → Part → Fault → List ℕ
 note_path page part fault = if page == 0 then outside_path (key_of part) fault else inside_path page part fault

@@ -4,8 +4,8 @@
 --   short_notes, unkept_notes   numbers whose pages may change before they are read, and stays that no plan keeps
 --   stay_notes              both
 use Rattle.std.specs.Prelude.{ℕ, zero, suc, ◌+◌, ◌-◌, false, List, [], ◌∷◌, ◌++◌, codes, length, take, drop, slice_get, None}
-use Rattle.std.specs.Fmt.{decimal}
 use Rattle.ttx_page.specs.Pages.{Page}
+use Rattle.ttx_places.specs.Paths.{below, page_path}
 use Rattle.ttx_source.specs.Promises.{PromiseFields}
 use Rattle.ttx_source.specs.Services.{ServiceFields, pages_of}
 use Rattle.ttx_stays.specs.ShortNumbers.{short_text}
@@ -23,11 +23,12 @@ abbrev pub line_note : List ℕ → List ℕ → List Note
 line_note path [] = []
 line_note path (c ∷ line) = note false path None (words_in (c ∷ line)) ∷ []
 
-abbrev pub page_path : ℕ → List ℕ → List ℕ
-page_path index key = codes "/page/" ++ decimal (index + 1) ++ key
+-- of the page at an index
+abbrev pub key_path : ℕ → List ℕ → List ℕ
+key_path index key = below (page_path (index + 1)) key
 
 abbrev pub short_note : List Page → List PromiseFields → ℕ → List Note
-short_note pages stays n = line_note (page_path n (codes "/number")) (short_text pages stays n (slice_get pages n))
+short_note pages stays n = line_note (key_path n (codes "number")) (short_text pages stays n (slice_get pages n))
 
 -- those of the first n pages
 abbrev pub short_notes : List Page → List PromiseFields → ℕ → List Note
@@ -35,7 +36,7 @@ short_notes pages stays zero = []
 short_notes pages stays (suc n) = short_notes pages stays n ++ short_note pages stays n
 
 abbrev pub unkept_note : ℕ → List Page → PromiseFields → List Note
-unkept_note lines pages stay = line_note (page_path stay.page (codes "/stays")) (stay_text lines pages stay)
+unkept_note lines pages stay = line_note (key_path stay.page (codes "stays")) (stay_text lines pages stay)
 
 abbrev pub unkept_notes : ℕ → List Page → List PromiseFields → List Note
 unkept_notes lines pages [] = []

@@ -1,12 +1,13 @@
 -- The warnings about a service as notes (profile).
 --
---   warned_page, below      the page that a warning is about; the path below that of the page, or of the text
---   order_of, warned_path   the number of a page in the text; the path of a warning
+--   warned_page, order_of   the page that a warning is about, and its number in the text
+--   warned_path             the path of what a warning is about, given that of its page, or of the text
 --   warned_sign             the character of a row that a warning is about
 --   warning_note, warning_notes     a warning as a note; all of them
-use Rattle.std.specs.Prelude.{ℕ, ◌+◌, false, ◌==◌, if◌then◌else◌, List, [], ◌∷◌, ◌++◌, codes, map, Option, Some, None}
+use Rattle.std.specs.Prelude.{ℕ, ◌+◌, false, ◌==◌, if◌then◌else◌, List, [], ◌∷◌, codes, map, Option, Some, None}
 use Rattle.std.specs.Fmt.{decimal}
 use Rattle.ttx_header.specs.Ids.{Id, same_id}
+use Rattle.ttx_places.specs.Paths.{below, page_path}
 use Rattle.ttx_source.specs.Services.{ServiceFields, pages_of}
 use Rattle.ttx_check.specs.WarningLines.{warning_text}
 use Rattle.ttx_check.specs.Warnings.{warnings}
@@ -35,26 +36,26 @@ warned_page (BehindItself page times) = Some page
 warned_page (MostTraffic mag) = None
 
 -- row 0 is `head`
-abbrev pub row_below : ℕ → List ℕ
-row_below row = if row == 0 then codes "/head" else codes "/rows/" ++ decimal row
+abbrev pub row_path : List ℕ → ℕ → List ℕ
+row_path path row = if row == 0 then below path (codes "head") else below (below path (codes "rows")) (decimal row)
 
-abbrev pub below : Warning → List ℕ
-below DeadInitial = codes "/info/initial"
-below (DeadLink page link) = codes "/links/" ++ decimal link
-below (HiddenRow page row) = row_below row
-below (UnshownRow page) = codes "/rows/24"
-below (StrayTab page row) = row_below row
-below (StrayBreak page row) = row_below row
-below (OtherSign page row column code shown option) = row_below row
-below (LiteralEscape page row) = row_below row
-below (OpenBox page row) = row_below row
-below (EmptyRow page) = codes "/row24"
-below (LetterNumber page) = codes "/number"
-below (LetterSubcode page) = codes "/sub"
-below (NoBox page) = []
-below (BehindSubpage page) = []
-below (BehindItself page times) = codes "/often"
-below (MostTraffic mag) = codes "/serial"
+abbrev pub warned_path : List ℕ → Warning → List ℕ
+warned_path path DeadInitial = below (below path (codes "info")) (codes "initial")
+warned_path path (DeadLink page link) = below (below path (codes "links")) (decimal link)
+warned_path path (HiddenRow page row) = row_path path row
+warned_path path (UnshownRow page) = row_path path 24
+warned_path path (StrayTab page row) = row_path path row
+warned_path path (StrayBreak page row) = row_path path row
+warned_path path (OtherSign page row column code shown option) = row_path path row
+warned_path path (LiteralEscape page row) = row_path path row
+warned_path path (OpenBox page row) = row_path path row
+warned_path path (EmptyRow page) = below path (codes "row24")
+warned_path path (LetterNumber page) = below path (codes "number")
+warned_path path (LetterSubcode page) = below path (codes "sub")
+warned_path path (NoBox page) = path
+warned_path path (BehindSubpage page) = path
+warned_path path (BehindItself page times) = below path (codes "often")
+warned_path path (MostTraffic mag) = below path (codes "serial")
 
 -- the first of these numbers, from this one on, whose page has the id; 0 if there is none
 abbrev pub order_from : ℕ → List Id → Id → ℕ
@@ -64,9 +65,9 @@ order_from number (own ∷ ids) id = if same_id id own then number else order_fr
 abbrev pub order_of : List Id → Id → ℕ
 order_of ids id = order_from 1 ids id
 
-abbrev pub page_prefix : List Id → Option Id → List ℕ
-page_prefix ids None = []
-page_prefix ids (Some id) = codes "/page/" ++ decimal (order_of ids id)
+abbrev pub path_from : List Id → Option Id → List ℕ
+path_from ids None = []
+path_from ids (Some id) = page_path (order_of ids id)
 
 abbrev pub warned_sign : Warning → Option ℕ
 warned_sign DeadInitial = None
@@ -87,7 +88,7 @@ warned_sign (BehindItself page times) = None
 warned_sign (MostTraffic mag) = None
 
 abbrev pub warning_note : List Id → Warning → Note
-warning_note ids w = note false (page_prefix ids (warned_page w) ++ below w) (warned_sign w) (warning_text w)
+warning_note ids w = note false (warned_path (path_from ids (warned_page w)) w) (warned_sign w) (warning_text w)
 
 abbrev pub ids_of : ServiceFields → List Id
 ids_of service = map (λ p. p.id) (pages_of service)

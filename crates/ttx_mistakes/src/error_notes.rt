@@ -27,6 +27,7 @@ use ttx_check::spots::{
 };
 use ttx_check::unknown_keys::home_of;
 use ttx_digits::push_decimal;
+use ttx_places::{page_path, push_part};
 use ttx_source::key_faults::KeyFault;
 use ttx_source::keys::Key;
 
@@ -46,34 +47,33 @@ fn is_missing(fault: KeyFault) -> bool
     matches!(fault, KeyFault::Missing { .. })
 }
 
-// Adds the path of what is refused, in a page.
-fn push_inside_path(
-    path: &mut String,
+// The path of what is refused, in a page.
+fn inside_path(
+    alloc: Global,
     page: usize,
     part: Part<'_>,
     fault: KeyFault,
-) -> Result<(), AllocError>
-    ensures { OnOk result (string_bytes path.new
-        ≡ string_bytes path.old ++ rule.inside_path page (part_view part.entry) (key_fault_of fault)) }
+) -> Result<String, AllocError>
+    ensures { IfOk result (λ path. string_bytes path ≡ rule.inside_path page (part_view part.entry) (key_fault_of fault)) }
 {
-    path.push_str("/page/")?;
-    push_decimal(path, page)?;
+    let mut path = page_path(alloc, page)?;
     if is_missing(fault) {
-        return Ok(());
+        return Ok(path);
     }
-    push_part_path(path, part)
+    push_part_path(&mut path, part)?;
+    Ok(path)
 }
 
-// Adds the path of what is refused, outside pages.
-fn push_outside_path(path: &mut String, key: &str, fault: KeyFault) -> Result<(), AllocError>
-    ensures { OnOk result (string_bytes path.new ≡ string_bytes path.old ++ rule.outside_path key.now (key_fault_of fault)) }
+// The path of what is refused, outside pages.
+fn outside_path(alloc: Global, key: &str, fault: KeyFault) -> Result<String, AllocError>
+    ensures { IfOk result (λ path. string_bytes path ≡ rule.outside_path key.now (key_fault_of fault)) }
 {
-    path.push_str(key_table(key))?;
+    let mut path = String::from_str(alloc, key_table(key))?;
     if is_missing(fault) {
-        return Ok(());
+        return Ok(path);
     }
-    path.push('/')?;
-    path.push_str(key)
+    push_part(&mut path, key)?;
+    Ok(path)
 }
 
 // The path of what is refused.
@@ -82,13 +82,11 @@ fn note_path(alloc: Global, mistake: &Mistake<'_>) -> Result<String, AllocError>
     ensures { IfOk result (λ path. string_bytes path
         ≡ rule.note_path mistake.now.page (part_view mistake.now.part) (key_fault_of mistake.now.fault)) }
 {
-    let mut path = String::new(alloc);
     if mistake.page == 0 {
-        push_outside_path(&mut path, key_of(mistake.part), mistake.fault)?;
+        outside_path(alloc, key_of(mistake.part), mistake.fault)
     } else {
-        push_inside_path(&mut path, mistake.page, mistake.part, mistake.fault)?;
+        inside_path(alloc, mistake.page, mistake.part, mistake.fault)
     }
-    Ok(path)
 }
 
 // Adds the id of a page, or its number in the text.

@@ -1,16 +1,15 @@
 //! Where a key is first given that a TOML text gives twice.
 
-ghost use Rattle.std.specs.Prelude.{◌≡◌, ◌+◌, ◌≤◌, ◌<◌, ◌++◌, ◌∷◌, [], true, IfOk, OnOk, Option, map, length, string_bytes, suc, false, option_map, option_copied};
+ghost use Rattle.std.specs.Prelude.{◌≡◌, ◌+◌, ◌≤◌, ◌<◌, ◌++◌, ◌∷◌, [], true, IfOk, Option, length, string_bytes, suc, false, option_map, option_copied};
 ghost use Rattle.toml.specs.Parse.{skip_bom};
 ghost use Rattle.toml_parser.specs.Strings.{key, starts_string};
-ghost use Rattle.toml_parser.specs.Reading.{key_view};
-ghost use Rattle.ttx_places.specs.Paths.{below, under, key_path};
 ghost use Rattle.ttx_mistakes.specs.FirstKeys as rule;
 ghost use Rattle.ttx_mistakes.specs.GivenViews.{given_view, given_views};
 
 use std::alloc::{AllocError, Global};
 use toml_parser::text::{byte_at, first, skip, skip_blank, skip_ws};
-use toml_parser::{Key, ParseError, bytes, dotted_key, quoted, starts_string};
+use toml_parser::{ParseError, bytes, dotted_key, quoted, starts_string};
+use ttx_places::key_path;
 
 /// The key or the header of an entry: its path, the number of bytes from it to the end of the text, and whether it begins another table
 /// of an array.
@@ -124,33 +123,6 @@ fn entry_start(s: &str) -> &str
     } else {
         skip_blank(s, true)
     }
-}
-
-// Adds a part to a path.
-fn push_part(path: &mut String, part: &str) -> Result<(), AllocError>
-    ensures { OnOk result (string_bytes path.new ≡ below (string_bytes path.old) part.now) }
-{
-    path.push('/')?;
-    path.push_str(part)
-}
-
-fn push_parts(path: &mut String, parts: &[String]) -> Result<(), AllocError>
-    ensures { OnOk result (string_bytes path.new ≡ under (string_bytes path.old) (map string_bytes parts.now)) }
-{
-    for part in parts {
-        push_part(path, part.as_str())?;
-    }
-    Ok(())
-}
-
-// The path of a value at a key of the table at a path.
-fn key_path(alloc: Global, path: &str, key: &Key) -> Result<String, AllocError>
-    ensures { IfOk result (λ p. string_bytes p ≡ key_path path.now (key_view key.now)) }
-{
-    let mut whole = String::from_str(alloc, path)?;
-    push_parts(&mut whole, key.path.as_slice())?;
-    push_part(&mut whole, key.last.as_str())?;
-    Ok(whole)
 }
 
 // The path of the key that stands here, below another path.
@@ -358,7 +330,7 @@ fn table_keys(alloc: Global, stop: usize, s: &str) -> Result<Vec<GivenKey>, Allo
 }
 
 /// The place where the key or the header at a place is first given, in the same table. `None` if no key or header stands there, or none
-/// with its path before. Paths are those of ttx_places, where a key with a slash in its name is taken for keys below one another.
+/// with its path before. Paths are those of ttx_places.
 #[tactic(auto, unfolding(crate::specs::FirstKeys::first_place))]
 pub fn first_place(alloc: Global, text: &str, place: usize) -> Result<Option<usize>, AllocError>
     ensures { IfOk result (λ first. first ≡ rule.first_place text.now place) }

@@ -1,9 +1,9 @@
 //! Keys that no table takes, as notes.
 
 ghost use Rattle.std.specs.Prelude.{◌≡◌, ◌++◌, [], IfOk, OnOk, map, option_map, codes};
-ghost use Rattle.std.specs.Fmt.{decimal};
 ghost use Rattle.std.specs.Prelude.{string_bytes};
 ghost use Rattle.toml.specs.View.{table_view, items_view, view};
+ghost use Rattle.ttx_places.specs.Paths.{below};
 ghost use Rattle.ttx_check.specs.Spots.{page_id};
 ghost use Rattle.ttx_mistakes.specs.KeyNotes as rule;
 ghost use Rattle.ttx_mistakes.specs.NoteViews.{note_view, note_views};
@@ -16,7 +16,7 @@ use ttx_check::spots::push_page_id;
 use ttx_check::unknown_keys::{
     info_names, is_one_of, member, page_names, push_key_words, service_names,
 };
-use ttx_digits::push_decimal;
+use ttx_places::{page_path, push_part};
 
 /// A table: its path, its name, and the keys that it takes.
 #[derive(Clone, Copy)]
@@ -28,11 +28,10 @@ pub struct Taker<'a> {
 
 // The path of a key.
 fn key_path(alloc: Global, path: &str, key: &str) -> Result<String, AllocError>
-    ensures { IfOk result (λ text. string_bytes text ≡ path.now ++ codes "/" ++ key.now) }
+    ensures { IfOk result (λ text. string_bytes text ≡ below path.now key.now) }
 {
     let mut text = String::from_str(alloc, path)?;
-    text.push('/')?;
-    text.push_str(key)?;
+    push_part(&mut text, key)?;
     Ok(text)
 }
 
@@ -86,15 +85,6 @@ fn push_info(alloc: Global, notes: &mut Vec<Note>, value: Option<&Value>) -> Res
         Some(table) => push_unknown(alloc, notes, taker, table),
         None => Ok(()),
     }
-}
-
-// The path of a page.
-fn page_path(alloc: Global, page: usize) -> Result<String, AllocError>
-    ensures { IfOk result (λ path. string_bytes path ≡ codes "/page/" ++ decimal page) }
-{
-    let mut path = String::from_str(alloc, "/page/")?;
-    push_decimal(&mut path, page)?;
-    Ok(path)
 }
 
 // The name of a page.

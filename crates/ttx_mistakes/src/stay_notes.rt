@@ -10,8 +10,8 @@ ghost use Rattle.ttx_mistakes.specs.StayNotes as rule;
 use crate::long_lines::{behind, copied};
 use crate::notes::Note;
 use std::alloc::{AllocError, Global};
-use ttx_digits::push_decimal;
 use ttx_page::Page;
+use ttx_places::{page_path, push_part};
 use ttx_source::{Promise, Service};
 use ttx_stays::{push_short, push_stay};
 
@@ -29,13 +29,12 @@ fn words_in(line: &[u8]) -> &[u8]
 }
 
 // The path of a key of the page at an index.
-fn page_path(alloc: Global, index: usize, key: &str) -> Result<String, AllocError>
+fn key_path(alloc: Global, index: usize, key: &str) -> Result<String, AllocError>
     requires { index ≤ 1_000_000 }
-    ensures { IfOk result (λ path. string_bytes path ≡ rule.page_path index key.now) }
+    ensures { IfOk result (λ path. string_bytes path ≡ rule.key_path index key.now) }
 {
-    let mut path = String::from_str(alloc, "/page/")?;
-    push_decimal(&mut path, index + 1)?;
-    path.push_str(key)?;
+    let mut path = page_path(alloc, index + 1)?;
+    push_part(&mut path, key)?;
     Ok(path)
 }
 
@@ -75,7 +74,7 @@ fn push_short_note(
     let Some(page) = pages.get(index) else {
         return Ok(());
     };
-    let path = page_path(alloc, index, "/number")?;
+    let path = key_path(alloc, index, "number")?;
     let mut line = String::new(alloc);
     push_short(&mut line, pages, stays, index, page)?;
     push_line(alloc, notes, path, line.as_bytes())
@@ -118,7 +117,7 @@ fn push_unkept_note(
     push_line(
         alloc,
         notes,
-        page_path(alloc, stay.page, "/stays")?,
+        key_path(alloc, stay.page, "stays")?,
         line.as_bytes(),
     )
 }

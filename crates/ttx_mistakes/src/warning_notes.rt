@@ -3,6 +3,7 @@
 ghost use Rattle.std.specs.Prelude.{◌≡◌, ◌++◌, IfOk, OnOk, map, string_bytes, codes};
 ghost use Rattle.std.specs.Fmt.{decimal};
 ghost use Rattle.ttx_page.specs.Views.{page_of};
+ghost use Rattle.ttx_places.specs.Paths.{below};
 ghost use Rattle.ttx_mistakes.specs.NoteViews.{note_view, note_views};
 ghost use Rattle.ttx_mistakes.specs.WarningNotes as rule;
 
@@ -12,9 +13,9 @@ use std::alloc::{AllocError, Global};
 use ttx_check::warning::Warning;
 use ttx_check::warning_lines::push_text;
 use ttx_check::warnings;
-use ttx_digits::push_decimal;
 use ttx_header::PageId;
 use ttx_page::Page;
+use ttx_places::{page_path, push_number, push_part};
 use ttx_source::Service;
 
 /// The page that a warning is about.
@@ -40,30 +41,37 @@ pub fn warned_page(warning: Warning) -> Option<PageId>
     }
 }
 
-// Adds the path of a row below that of its page.
+// Adds a row to the path of its page.
 fn push_row(path: &mut String, row: u8) -> Result<(), AllocError>
-    ensures { OnOk result (string_bytes path.new ≡ string_bytes path.old ++ rule.row_below row) }
+    ensures { OnOk result (string_bytes path.new ≡ rule.row_path (string_bytes path.old) row) }
 {
     if row == 0 {
-        return path.push_str("/head");
+        return push_part(path, "head");
     }
-    path.push_str("/rows/")?;
-    push_decimal(path, usize::from(row))
+    push_part(path, "rows")?;
+    push_number(path, usize::from(row))
 }
 
 fn push_link(path: &mut String, link: usize) -> Result<(), AllocError>
-    ensures { OnOk result (string_bytes path.new ≡ string_bytes path.old ++ codes "/links/" ++ decimal link) }
+    ensures { OnOk result (string_bytes path.new ≡ below (below (string_bytes path.old) (codes "links")) (decimal link)) }
 {
-    path.push_str("/links/")?;
-    push_decimal(path, link)
+    push_part(path, "links")?;
+    push_number(path, link)
 }
 
-// Adds the path below that of the page, or of the text.
-fn push_below(path: &mut String, warning: Warning) -> Result<(), AllocError>
-    ensures { OnOk result (string_bytes path.new ≡ string_bytes path.old ++ rule.below warning) }
+fn push_initial(path: &mut String) -> Result<(), AllocError>
+    ensures { OnOk result (string_bytes path.new ≡ below (below (string_bytes path.old) (codes "info")) (codes "initial")) }
+{
+    push_part(path, "info")?;
+    push_part(path, "initial")
+}
+
+// Adds what a warning is about to the path of its page, or of the text.
+fn push_warned(path: &mut String, warning: Warning) -> Result<(), AllocError>
+    ensures { OnOk result (string_bytes path.new ≡ rule.warned_path (string_bytes path.old) warning) }
 {
     match warning {
-        Warning::DeadInitial => path.push_str("/info/initial"),
+        Warning::DeadInitial => push_initial(path),
         Warning::DeadLink { page: _, link } => push_link(path, link),
         Warning::HiddenRow { page: _, row }
         | Warning::StrayTab { page: _, row }
@@ -71,13 +79,13 @@ fn push_below(path: &mut String, warning: Warning) -> Result<(), AllocError>
         | Warning::LiteralEscape { page: _, row }
         | Warning::OpenBox { page: _, row }
         | Warning::OtherSign { page: _, row, .. } => push_row(path, row),
-        Warning::UnshownRow { .. } => path.push_str("/rows/24"),
-        Warning::EmptyRow { .. } => path.push_str("/row24"),
-        Warning::LetterNumber { .. } => path.push_str("/number"),
-        Warning::LetterSubcode { .. } => path.push_str("/sub"),
+        Warning::UnshownRow { .. } => push_row(path, 24),
+        Warning::EmptyRow { .. } => push_part(path, "row24"),
+        Warning::LetterNumber { .. } => push_part(path, "number"),
+        Warning::LetterSubcode { .. } => push_part(path, "sub"),
         Warning::NoBox { .. } | Warning::BehindSubpage { .. } => Ok(()),
-        Warning::BehindItself { .. } => path.push_str("/often"),
-        Warning::MostTraffic { .. } => path.push_str("/serial"),
+        Warning::BehindItself { .. } => push_part(path, "often"),
+        Warning::MostTraffic { .. } => push_part(path, "serial"),
     }
 }
 
@@ -93,17 +101,13 @@ pub fn order_of(pages: &[Page], id: PageId) -> usize
     0
 }
 
-// The path of the page that a warning is about.
-fn push_page(path: &mut String, pages: &[Page], page: Option<PageId>) -> Result<(), AllocError>
-    ensures { OnOk result (string_bytes path.new
-        ≡ string_bytes path.old ++ rule.page_prefix (map (λ p. p.id) (map page_of pages.now)) page) }
+// The path of the page that a warning is about, or of the text.
+fn path_from(alloc: Global, pages: &[Page], page: Option<PageId>) -> Result<String, AllocError>
+    ensures { IfOk result (λ path. string_bytes path ≡ rule.path_from (map (λ p. p.id) (map page_of pages.now)) page) }
 {
     match page {
-        None => Ok(()),
-        Some(id) => {
-            path.push_str("/page/")?;
-            push_decimal(path, order_of(pages, id))
-        }
+        None => Ok(String::new(alloc)),
+        Some(id) => page_path(alloc, order_of(pages, id)),
     }
 }
 
@@ -121,9 +125,8 @@ fn warned_sign(warning: Warning) -> Option<usize>
 pub fn warning_note(alloc: Global, pages: &[Page], warning: &Warning) -> Result<Note, AllocError>
     ensures { IfOk result (λ note. note_view note ≡ rule.warning_note (map (λ p. p.id) (map page_of pages.now)) warning.now) }
 {
-    let mut path = String::new(alloc);
-    push_page(&mut path, pages, warned_page(*warning))?;
-    push_below(&mut path, *warning)?;
+    let mut path = path_from(alloc, pages, warned_page(*warning))?;
+    push_warned(&mut path, *warning)?;
     let mut words = String::new(alloc);
     push_text(&mut words, *warning)?;
     Ok(Note {

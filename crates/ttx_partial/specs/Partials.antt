@@ -1,7 +1,7 @@
 -- The service text of what can be said.
 --
 --   IsNoMemory              memory ran out
---   IsText                  the text of a service that says what a cycle sends
+--   IsText                  a service that says what a cycle sends, and its text
 --   Steps                   a service text, or a page that is why there is none
 --   ExtractsLast            a service text, or why there is none, after these pages were left out
 --   IsPartial, IsNoPartial  the pages that are left out, and the service text of the rest; why the rest has none
@@ -9,6 +9,7 @@
 use Rattle.std.specs.Prelude.{◌≡◌, ◌⊎◌, ℕ, List, length, string_bytes, ⊤, None, Result, Ok, Err}
 use Rattle.ttx_certify.specs.CertifyingFiles.{IsServiceText}
 use Rattle.ttx_extract.specs.Extracts.{IsExtract, AnswersFault}
+use Rattle.ttx_extract.specs.ServiceTexts.{service_text}
 use Rattle.ttx_extract.specs.declared.extraction.Extracted.{Extracted}
 use Rattle.ttx_extract.specs.declared.faults.ExtractFault.{ExtractFault}
 use Rattle.ttx_extract.specs.declared.faults.ExtractFault.TheVariants.{NoMemory}
@@ -24,6 +25,7 @@ IsNoMemory fault = ⊥
 
 pub record IsText (slots : List (List ℕ)) (lines : ℕ) (e : Extracted) : Type 0 where
   pub text : IsServiceText (string_bytes e.text) e.service
+  pub same : string_bytes e.text ≡ service_text e.service
   pub says : IsExtract slots lines e.service
 
 abbrev pub Steps : List (List ℕ) → ℕ → Result Step ExtractFault → Type 0

@@ -1,3 +1,5 @@
 mod Turns
 mod Columns
 mod LastLine
+mod PartsOfPaths
+mod Escapes

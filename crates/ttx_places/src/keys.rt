@@ -1,6 +1,6 @@
 //! Paths, and the keys that extend them.
 
-ghost use Rattle.std.specs.Prelude.{◌≡◌, ◌<◌, length, map, IfOk, OnOk, Some, string_bytes};
+ghost use Rattle.std.specs.Prelude.{◌≡◌, ◌<◌, ◌++◌, length, map, IfOk, OnOk, Some, string_bytes, encode_utf8};
 ghost use Rattle.std.specs.Fmt.{decimal};
 ghost use Rattle.toml.specs.Parse.{key_equals, header_key};
 ghost use Rattle.toml_parser.specs.Reading.{key_view};
@@ -11,16 +11,31 @@ use std::alloc::{AllocError, Global};
 use toml_parser::text::{first, skip, skip_ws};
 use toml_parser::{Key, dotted_key};
 
-// Adds a part to a path.
-fn push_part(path: &mut String, part: &str) -> Result<(), AllocError>
+// Adds a character of a part.
+#[tactic(auto, using(crate::proofs::Escapes::plain_character), unfolding(crate::specs::Paths::escaped, std::specs::Prelude::encode_utf8))]
+fn push_sign(path: &mut String, sign: char) -> Result<(), AllocError>
+    ensures { OnOk result (string_bytes path.new ≡ string_bytes path.old ++ rule.escaped (encode_utf8 sign)) }
+{
+    match sign {
+        '~' => path.push_str("~0"),
+        '/' => path.push_str("~1"),
+        _ => path.push(sign),
+    }
+}
+
+/// Adds a part to a path.
+pub fn push_part(path: &mut String, part: &str) -> Result<(), AllocError>
     ensures { OnOk result (string_bytes path.new ≡ rule.below (string_bytes path.old) part.now) }
 {
     path.push('/')?;
-    path.push_str(part)
+    for sign in part.chars() {
+        push_sign(path, sign)?;
+    }
+    Ok(())
 }
 
-// Adds the number of an element.
-fn push_number(path: &mut String, number: usize) -> Result<(), AllocError>
+/// Adds the number of an element.
+pub fn push_number(path: &mut String, number: usize) -> Result<(), AllocError>
     ensures { OnOk result (string_bytes path.new ≡ rule.below (string_bytes path.old) (decimal number)) }
 {
     push_part(path, Buffer::new().format(number))
@@ -33,6 +48,13 @@ pub fn element_path(alloc: Global, path: &str, number: usize) -> Result<String, 
     let mut whole = String::from_str(alloc, path)?;
     push_number(&mut whole, number)?;
     Ok(whole)
+}
+
+/// The path of a page, counted from 1.
+pub fn page_path(alloc: Global, page: usize) -> Result<String, AllocError>
+    ensures { IfOk result (λ path. string_bytes path ≡ rule.page_path page) }
+{
+    element_path(alloc, "/page", page)
 }
 
 fn push_parts(path: &mut String, parts: &[String]) -> Result<(), AllocError>

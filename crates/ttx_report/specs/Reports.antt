@@ -33,7 +33,7 @@ pub record Facts : Type 0 where
   pub others : List Id
 
 unfoldable pub judged_html : ServiceFields → CertificateFields → Verdict → List ℕ
-judged_html service w verdict = verdict_html w (length service.pages) verdict ++ numbers_html w service.lines ++ decoders_html
+judged_html service w verdict = verdict_html w (length service.pages) verdict ++ numbers_html w service.lines ++ decoders_html w.class
 
 unfoldable pub found_html : Facts → List ℕ
 found_html facts = waits_html facts.waits facts.bad ++ others_html facts.others

@@ -74,9 +74,14 @@ further_rows =
     codes "<tr><td>refuses a row with a wrong byte whole, or loses rows</td><td>if one of K successive transmissions of a row arrives whole, K being the repeat count</td></tr>\n"
     ++ codes "<tr><td>stores characters whatever their parity</td><td>if no row arrives with a wrong character</td></tr>\n"
 
-unfoldable pub last_rows : List ℕ
-last_rows = codes "<tr><td>loses page headers</td><td>right again a deadline after the last loss</td></tr>\n"
-    ++ codes "<tr><td>checks a page by its check word</td><td>no</td></tr></table>\n"
+-- a receiver that surely clears what it held has more to hold after a loss than before it is tuned
+unfoldable pub loss_words : Class → List ℕ
+loss_words Any = codes "right again a deadline after the last loss"
+loss_words Clearing = codes "only with a certificate of class any"
 
-unfoldable pub decoders_html : List ℕ
-decoders_html = heading_html (codes "To which decoders") ++ nearest_rows ++ further_rows ++ last_rows
+unfoldable pub last_rows : Class → List ℕ
+last_rows class = codes "<tr><td>loses page headers</td><td>" ++ loss_words class
+    ++ codes "</td></tr>\n<tr><td>checks a page by its check word</td><td>no</td></tr></table>\n"
+
+unfoldable pub decoders_html : Class → List ℕ
+decoders_html class = heading_html (codes "To which decoders") ++ nearest_rows ++ further_rows ++ last_rows class

@@ -143,7 +143,7 @@ fn push_judged(
 {
     push_verdict(text, certificate, service.pages().len(), verdict, line)?;
     push_numbers(text, certificate, service.lines())?;
-    push_decoders(text)
+    push_decoders(text, certificate.class())
 }
 
 // Appends how long viewers wait, and what else is on the air.

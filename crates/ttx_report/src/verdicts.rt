@@ -185,23 +185,35 @@ fn push_further(text: &mut String) -> Result<(), AllocError>
     )
 }
 
-#[tactic(auto, unfolding(crate::specs::Verdicts::last_rows))]
-fn push_last(text: &mut String) -> Result<(), AllocError>
-    ensures { OnOk result (string_bytes text.new ≡ string_bytes text.old ++ rule.last_rows) }
+#[tactic(auto, unfolding(crate::specs::Verdicts::loss_words))]
+fn push_loss(text: &mut String, class: Class) -> Result<(), AllocError>
+    ensures { OnOk result (string_bytes text.new ≡ string_bytes text.old ++ rule.loss_words class) }
 {
-    text.push_str(
-        "<tr><td>loses page headers</td><td>right again a deadline after the last loss</td></tr>\n\
-          <tr><td>checks a page by its check word</td><td>no</td></tr></table>\n",
+    match class {
+        Class::Any => text.push_str("right again a deadline after the last loss"),
+        Class::Clearing => text.push_str("only with a certificate of class any"),
+    }
+}
+
+#[tactic(auto, unfolding(crate::specs::Verdicts::last_rows))]
+fn push_last(text: &mut String, class: Class) -> Result<(), AllocError>
+    ensures { OnOk result (string_bytes text.new ≡ string_bytes text.old ++ rule.last_rows class) }
+{
+    push_words(text, "<tr><td>loses page headers</td><td>")?;
+    push_loss(text, class)?;
+    push_words(
+        text,
+        "</td></tr>\n<tr><td>checks a page by its check word</td><td>no</td></tr></table>\n",
     )
 }
 
-/// Appends which decoders a yes covers.
+/// Appends which decoders a yes to a certificate of this class covers.
 #[tactic(auto, unfolding(crate::specs::Verdicts::decoders_html))]
-pub(crate) fn push_decoders(text: &mut String) -> Result<(), AllocError>
-    ensures { OnOk result (string_bytes text.new ≡ string_bytes text.old ++ rule.decoders_html) }
+pub(crate) fn push_decoders(text: &mut String, class: Class) -> Result<(), AllocError>
+    ensures { OnOk result (string_bytes text.new ≡ string_bytes text.old ++ rule.decoders_html class) }
 {
     push_heading(text, "To which decoders")?;
     push_nearest(text)?;
     push_further(text)?;
-    push_last(text)
+    push_last(text, class)
 }

@@ -19,3 +19,4 @@ mod MonitoredFeeds
 mod ShownFile
 mod CertificateLengths
 mod NamedSlots
+mod AskedFiles

@@ -13,8 +13,9 @@ use Rattle.std.proofs.lemmas.Map.Steps.{length-le_from_distinct_below}
 use Rattle.ttx_certificate.proofs.EntryOrder.{rising_pairs}
 use Rattle.ttx_certificate.specs.CertificateTexts.{certificate_text}
 use Rattle.ttx_certificate.specs.Entries.{EntryFields, CertificateFields, IsEntry, IsCertificateFields, is_item, rises}
-use Rattle.ttx_certificate.specs.Entries.{rises_above, place_of, entry_places, same_item, starts_in, certificate_at}
+use Rattle.ttx_certificate.specs.Entries.{rises_above, place_of, entry_places, same_item, starts_in}
 use Rattle.ttx_certificate.specs.ItemPlaces.{IsItem, item_number, key_of}
+use Rattle.ttx_certificate.specs.NamedStarts.{Certificate}
 use Rattle.ttx_cycle.specs.Bounded.{most_bytes}
 use Rattle.ttx_header.specs.Ids.{Id, same_id}
 use Rattle.ttx_page.proofs.SlotDistances.{cases_ltz}
@@ -231,7 +232,7 @@ own_starts (e ∷ es) up =
     cond-true (is_for e e) e.starts (starts_in es e.page e.item) (is_for_itself e) in
     (here, passed e place es es (omega arith) up (own_starts es (rising_later [] place (entry_places es) up)))
 
--- ---- the certificate that is found
+-- ---- the starts of the certificate that is found
 
 is_the_item : (item : Item) → is_item item ≡ true → IsItem item
 is_the_item TheHead is = tt
@@ -285,16 +286,17 @@ all_contained P [] f = λ k d lt. absurd (omega arith)
 all_contained P (x ∷ xs) f = All-cons P x xs (f x (0, omega arith, refl))
     (all_contained P xs (λ y c. f y (suc c.0, (let lt = c.1 in omega (arith, lt)), c.2)))
 
-module _ (cycle : List (List ℕ)) (pages : List Page) (repeat lines : ℕ) (class : Class) (w : CertificateFields) (deadline : Option ℕ)
-    (found : IsFoundFor cycle pages repeat lines class (certificate_at w) deadline) where
+module _ (cycle : List (List ℕ)) (pages : List Page) (repeat lines : ℕ) (class : Class) (other : Certificate) (deadline : Option ℕ)
+    (found : IsFoundFor cycle pages repeat lines class other deadline) (w : CertificateFields) (same : starts_in w.entries ≡ other.starts) where
   entry_sends : (e : EntryFields) → IsEntry e → starts_in w.entries e.page e.item ≡ e.starts → All (Sends cycle e) e.starts
   entry_sends e is own = elim (listed pages e.page) as (λ _. All (Sends cycle e) e.starts) [
     | inl l ↦ all_contained (Sends cycle e) e.starts (λ start among.
-        let there : Contains (starts_in w.entries l.page.id e.item) start =
+        let mine : Contains (starts_in w.entries l.page.id e.item) start =
         subst (λ id. Contains (starts_in w.entries id e.item) start) (sym l.same) (subst (λ xs. Contains xs start) (sym own) among) in
+        let there : Contains (other.starts l.page.id e.item) start = subst (λ starts. Contains (starts l.page.id e.item) start) same mine in
         let named = (found.named l.index l.page l.here e.item (is_the_item e.item is.item) start).0 there in
         sends_of cycle e l.page.id lines repeat start l.same named.1)
-    | inr none ↦ subst (All (Sends cycle e)) (sym (found.no_others e.page none e.item) ∙ own) (λ k d lt. absurd (omega arith))
+    | inr none ↦ subst (All (Sends cycle e)) (sym (found.no_others e.page none e.item) ∙ ap (λ starts. starts e.page e.item) (sym same) ∙ own) (λ k d lt. absurd (omega arith))
   ]
 
   all_send : (es : List EntryFields) → AllByRecursion IsEntry es → OwnStarts w.entries es → AllSend cycle es
@@ -305,7 +307,7 @@ module _ (cycle : List (List ℕ)) (pages : List Page) (repeat lines : ℕ) (cla
   all_rise [] are = tt
   all_rise (e ∷ es) are = ((and_parts _ (rises e.starts) are.0.starts).1, all_rise es are.1)
 
-  -- its text isn't too long
+  -- the text of one with these starts isn't too long
   pub found_is_short : IsCertificateFields w → length cycle ≤ 65536 → length (certificate_text w) ≤ most_bytes
   found_is_short is most =
       let send = all_send w.entries is.entries (own_starts w.entries is.rising) in

@@ -14,7 +14,7 @@ use Rattle.ttx_broadcast.specs.declared.request.ClockName.{ClockName}
 use Rattle.ttx_broadcast.specs.declared.request.ClockName.TheVariants.{Zone, Ahead}
 use Rattle.ttx_broadcast.specs.declared.request.Request.{Request}
 
--- without a number there is no end, but that of the largest u32
+-- without a number, as many as a u32 can count
 abbrev pub fields_in : Option ℕ → ℕ
 fields_in None = 2 ^ 32 - 1
 fields_in (Some fields) = fields

@@ -18,6 +18,7 @@ use Rattle.ttx_files.specs.declared.faults.FilesFault.TheVariants.{Cycle, Write,
 use Rattle.ttx_files.specs.declared.told.Filed.{Filed}
 use Rattle.ttx_cycle.specs.Reading.{Judged}
 use Rattle.ttx_extract.specs.Extracts.{IsExtract}
+use Rattle.ttx_extract.specs.ServiceTexts.{service_text}
 use Rattle.ttx_extract.specs.declared.faults.ExtractFault.{ExtractFault}
 use Rattle.ttx_source.specs.Services.{ServiceFields}
 use Rattle.ttx_tool.specs.Devices.{is_tool_write, IsFaultOf}
@@ -28,10 +29,11 @@ use Rattle.ttx_tool.specs.declared.faults.ToolFault.TheVariants.{Files}
 abbrev pub extracted_line : ℕ → List ℕ
 extracted_line count = codes "extracted " ++ decimal count ++ codes " pages" ++ 10 ∷ []
 
--- the text is that of a service that says what the slots send, and the line counts its pages
+-- the text is the one of a service that says what the slots send, and the line counts its pages
 pub record IsExtracted (slots : List (List ℕ)) (lines : ℕ) (text line : List ℕ) : Type 0 where
   pub service : ServiceFields
   pub text_is : IsServiceText text service
+  pub same : text ≡ service_text service
   pub says : IsExtract slots lines service
   pub line_is : line ≡ extracted_line (length service.pages)
 

@@ -26,6 +26,7 @@ use Rattle.ttx_tool.specs.declared.faults.ToolFault.{ToolFault}
 use Rattle.ttx_tool.specs.declared.faults.ToolFault.TheVariants.{Files}
 use Rattle.ttx_certificate.specs.CertificateTexts.{certificate_text}
 use Rattle.ttx_certificate.specs.Entries.{CertificateFields, IsCertificateFields, certificate_at}
+use Rattle.ttx_witness.specs.Coverage.{IsCertificate}
 use Rattle.ttx_witness.specs.search.Finding.{IsFoundFor}
 use Rattle.ttx_witness.specs.declared.faults.reason.Reason.{Reason}
 
@@ -65,6 +66,7 @@ pub record IsFoundAndTold (slots : List (List ℕ)) (service : ServiceFields) (r
     : Type 0 where
   pub w : CertificateFields
   pub fields : IsCertificateFields w
+  pub ranges : IsCertificate (certificate_at w)
   pub deadline : Option ℕ
   pub found : IsFoundFor slots (pages_of service) repeat service.lines class (certificate_at w) deadline
   pub told : TellsFound slots service w deadline file line status

@@ -1,6 +1,7 @@
 -- What `find` with a deadline writes for a packet file and the text of a service.
 --
---   TellsRefused, TellsAsked        what goes out at a no, and at each verdict
+--   TellsRefused, WritesAsked       what goes out at a no, and at each verdict
+--   TellsAsked              the same; at a yes the text is short enough to be read, and each page is seen
 --   IsAskedAndTold, IsAsked         the certificate with the deadline that is asked for, of a cycle and a service, and of their texts
 --   AsksText                what is returned for them
 --   AsksFiles               what was written to the certificate's file and to the output, for each answer
@@ -19,7 +20,7 @@ use Rattle.ttx_certify.specs.declared.verdict.Verdict.{Verdict}
 use Rattle.ttx_certify.specs.declared.verdict.Verdict.TheVariants.{Yes, No}
 use Rattle.ttx_deadline.specs.Deadlines.{IsFoundWith}
 use Rattle.ttx_deadline.specs.declared.asked_deadlines.Asked.{Asked}
-use Rattle.ttx_tool.specs.Find.{WritesDeadline, IsNoFinding}
+use Rattle.ttx_tool.specs.Find.{WritesDeadline, TellsDeadline, IsNoFinding}
 use Rattle.ttx_tool.specs.declared.faults.ToolFault.{ToolFault}
 use Rattle.ttx_tool.specs.declared.faults.ToolFault.TheVariants.{Files}
 
@@ -28,16 +29,21 @@ abbrev pub TellsRefused : CertificateFields → ℕ → Reason → List ℕ → 
 TellsRefused w pages reason file line status = (file ≡ []) × (line ≡ verdict_line w pages (No reason)) × (status ≡ 1)
 
 -- yes: the certificate's text into the file, and the line of its deadline
-abbrev pub TellsAsked : CertificateFields → ℕ → ℕ → Verdict → List ℕ → List ℕ → ℕ → Type 0
-TellsAsked w deadline pages Yes file line status = WritesDeadline w deadline file line status
-TellsAsked w deadline pages (No reason) file line status = TellsRefused w pages reason file line status
+abbrev pub WritesAsked : CertificateFields → ℕ → ℕ → Verdict → List ℕ → List ℕ → ℕ → Type 0
+WritesAsked w deadline pages Yes file line status = WritesDeadline w deadline file line status
+WritesAsked w deadline pages (No reason) file line status = TellsRefused w pages reason file line status
+
+-- the same; at a yes the text is short enough to be read, and each page is seen
+abbrev pub TellsAsked : List (List ℕ) → ServiceFields → CertificateFields → ℕ → Verdict → List ℕ → List ℕ → ℕ → Type 0
+TellsAsked slots service w deadline Yes file line status = TellsDeadline slots service w deadline file line status
+TellsAsked slots service w deadline (No reason) file line status = TellsRefused w (length service.pages) reason file line status
 
 -- the certificate of a cycle and a service with the deadline that is asked for, the verdict on it, and what goes out
 pub record IsAskedAndTold (slots : List (List ℕ)) (service : ServiceFields) (asked : Asked) (file line : List ℕ) (status : ℕ) : Type 0 where
   pub w : CertificateFields
   pub verdict : Verdict
   pub found : IsFoundWith slots (pages_of service) service.lines asked w verdict
-  pub told : TellsAsked w asked.deadline (length service.pages) verdict file line status
+  pub told : TellsAsked slots service w asked.deadline verdict file line status
 
 -- the same for a packet file and the text of a service
 pub record IsAsked (a b : List ℕ) (asked : Asked) (file line : List ℕ) (status : ℕ) : Type 0 where

@@ -3,6 +3,7 @@
 --   counter_line, counter_numbers    the line of a counter-run, and what it says after the page
 --   said_counter, said_none what is said of a counter-run, and that there is none: a line, or a JSON object
 --   saved                   the text that is kept of it, where it is asked for
+--   IsCounterTold           a counter-run of the first page that is wrong, and its line
 --   TellsAnswer             what goes out where there is a counter-run, and where there is none
 --   IsRefutation, IsRefutingFiles    what is found of a cycle, a service and a certificate, and of their texts, and what goes out
 --   IsNoClass, IsClassFault, IsNoRefuting, RefutesText    why nothing is looked for; what is returned
@@ -19,7 +20,7 @@ use Rattle.ttx_files.specs.declared.faults.FilesFault.TheVariants.{Write, NoMemo
 use Rattle.ttx_files.specs.declared.told.Filed.{Filed}
 use Rattle.ttx_counter.specs.Counters.{CounterRun}
 use Rattle.ttx_counter.specs.CounterTexts.{counter_text}
-use Rattle.ttx_counter.specs.Refutations.{IsCounterTo, IsUnrefuted}
+use Rattle.ttx_counter.specs.Refutations.{IsCounterTo, IsFirstTold, IsUnrefuted}
 use Rattle.ttx_header.specs.Ids.{Id}
 use Rattle.ttx_page.specs.Pages.{Page}
 use Rattle.ttx_page.specs.declared.class.Class.{Class as ClassOf}
@@ -57,10 +58,11 @@ said_none true = none_record
 abbrev pub saved : Bool → CounterRun → List ℕ
 saved save c = if save then counter_text c else []
 
--- the counter-run has the certificate's numbers, and its page is named
+-- the counter-run has the certificate's numbers; its page is the first that is wrong, and is named
 pub record IsCounterTold (slots : List (List ℕ)) (pages : List Page) (w : CertificateFields) (json : Bool) (c : CounterRun) (line : List ℕ)
     : Type 0 where
   pub is : IsCounterTo slots pages (certificate_at w) c
+  pub first : IsFirstTold slots pages (certificate_at w) c
   pub page : Page
   pub here : slice_get pages c.page ≡ Some page
   pub same : line ≡ said_counter json page.id c

@@ -9,7 +9,7 @@ use Rattle.ttx_page.specs.Streams.{repeated, run_length, heads_page}
 use Rattle.ttx_witness.specs.declared.runs.transmissions.Transmission.{Transmission}
 use Rattle.ttx_witness.specs.Coverage.{Certificate, IsCertificate, limit}
 use Rattle.ttx_witness.specs.sent.ItemTransmissions.{PageOwner, owner_scan, sent_at, sent_scan}
-use Rattle.ttx_witness.specs.sent.Collected.{IsItem, item_number, place_of_item}
+use Rattle.ttx_witness.specs.sent.Collected.{IsItem, item_number}
 use Rattle.ttx_witness.specs.faults.Comparing.{is_mine, sends}
 use Rattle.ttx_witness.specs.faults.FirstSlots.{IsAfter, AreFirstTaken, SentBelow}
 use Rattle.ttx_witness.specs.declared.faults.first_slots.FirstSlots.{FirstSlots}
@@ -17,11 +17,9 @@ use Rattle.ttx_certify.specs.declared.walks.page_facts.Facts.{Facts}
 use Rattle.ttx_certify.specs.declared.walks.page_facts.Heads.{Heads}
 use Rattle.ttx_witness.specs.declared.sent.one_slot.Sent.{Sent}
 use Rattle.ttx_witness.specs.sent.OneSlot.{sent_of, is_sent}
-use Rattle.ttx_certify.specs.walks.SentSlots.{placed_in}
 use Rattle.ttx_certify.specs.walks.PageFacts.{Noted, heads_after, heads_of, AreFacts}
 use Rattle.ttx_witness.proofs.FirstFaults.{taken_more, sent_more}
-use Rattle.ttx_certify.proofs.walk_lemmas.SentPlaces.{placed_more}
-use Rattle.ttx_witness.proofs.SentItems.{placed_item, some_of, sends_some}
+use Rattle.ttx_witness.proofs.SentItems.{some_of, sends_some}
 use Rattle.ttx_certify.proofs.walk_lemmas.GrowingLists.{one_longer, here, same_before, owner_before, sent_grown}
 
 -- a run has at most eight transmissions
@@ -58,18 +56,10 @@ module _ (w : Certificate) (is : IsCertificate w) (p : Page) (i : ℕ) (sent : O
   abbrev more : List (List ℕ)
   more = y ++ z ∷ []
 
-  grown : (item : Item) → IsItem item → sent_scan p.id w.lines item (repeated y) entry (length y) ++ sent_of i item sent
+  -- what the slots send of an item after one more slot
+  pub grown : (item : Item) → IsItem item → sent_scan p.id w.lines item (repeated y) entry (length y) ++ sent_of i item sent
       ≡ sent_scan p.id w.lines item (repeated more) entry (length more)
   grown item it = sent_grown y z p.id w.lines item entry owner (sent_of i item sent) k at_end right (told item it)
-
-  -- what the slots send after one more slot
-  pub listed_more : (item : Item) → IsItem item → (old new : List (Option Sent)) → new ≡ old ++ sent ∷ [] →
-      placed_in (place_of_item i item) old ≡ sent_scan p.id w.lines item (repeated y) entry (length y) →
-      placed_in (place_of_item i item) new ≡ sent_scan p.id w.lines item (repeated more) entry (length more)
-  listed_more item it old new e h =
-      ap (placed_in (place_of_item i item)) e ∙ placed_more (place_of_item i item) old sent
-      ∙ ap (λ ts. placed_in (place_of_item i item) old ++ ts) (placed_item i item it sent)
-      ∙ ap (λ ts. ts ++ sent_of i item sent) h ∙ grown item it
 
   -- whether the slot sends an item
   sends_is : (item : Item) → IsItem item → is_sent i item sent

@@ -10,6 +10,7 @@ use Rattle.ttx_witness.specs.sent.ItemTransmissions.{PageOwner, tainted_by, owne
 use Rattle.ttx_witness.proofs.SentItems.{SameSlot, same_refl, same_tainted}
 use Rattle.ttx_certify.specs.declared.walks.page_facts.Facts.{Facts}
 use Rattle.ttx_witness.specs.Elements.{HoldsAt}
+use Rattle.ttx_certify.specs.walks.PackedTracks.{IsTrackedAt}
 use Rattle.ttx_certify.specs.walks.PageFacts.{AreFacts}
 use Rattle.ttx_certify.specs.walks.Passing.{AreKept, walk_pages, walk_certificate}
 use Rattle.ttx_certify.specs.declared.walks.passes.Walk.{Walk}
@@ -67,13 +68,9 @@ own_entry y id = elim (scan_forgets id (repeated y) (entry_owner y id) (length y
 pub kept_same : (walk : Walk) (a b : Id → Option PageOwner) (y : List (List ℕ)) →
     ((i : ℕ) (p : Page) → slice_get (walk_pages walk) i ≡ Some p → a p.id ≡ b p.id) → AreKept walk a y → AreKept walk b y
 kept_same walk a b y same k = record {
-  sent = record {
-    count = k.sent.count;
-    places = k.sent.places;
-    unlinked = k.sent.unlinked;
-    each = λ i p item at it. k.sent.each i p item at it
-        ∙ ap (λ e. sent_scan p.id (walk_certificate walk).lines item (repeated y) e (length y)) (same i p at);
-  };
+  tracks = λ i p item at it.
+      subst (λ e. IsTrackedAt (walk_certificate walk) p item (sent_scan p.id (walk_certificate walk).lines item (repeated y) e (length y)) i
+      walk.tracks.each.items) (same i p at) (k.tracks i p item at it);
   facts = λ i p at. subst (λ e. HoldsAt Facts walk.facts.items i (AreFacts (walk_certificate walk) p (repeated y) e (length y)))
       (same i p at) (k.facts i p at);
   others = k.others;

@@ -5,14 +5,15 @@
 --   ended_pages, ended_certificate      those of a walk that has ended
 --   AreReady                what a walk keeps that depends only on its pages
 --   AreSeen                 the owners after a list, as the pages see them
---   AreListed, AreNoted, AreTold, AreKept   what the slots of a list send, facts and headers of other subpages, given the owners before it
+--   AreTracked, AreNoted, AreTold, AreKept  tracks, facts and headers of other subpages after a list, given the owners before it
 --   Starts                  a walk after a first list
 --   IsPassed, Stands        a walk after a second list, which follows a first one
 --   IsBorneOut              a second list that bears out what a first one left
 --   IsEnded                 a walk that has ended with the owners with which its second pass began
 --   EndsAs                  the answer at the end of the second list
-use Rattle.std.specs.Prelude.{◌≡◌, ◌↔◌, ℕ, ◌*◌, ◌<◌, ◌≤◌, false, List, [], length, map, get_or, slice_get, slice_index_or, Option, Some, None, IsTrue}
+use Rattle.std.specs.Prelude.{◌≡◌, ◌↔◌, ℕ, Vec, ◌<◌, ◌≤◌, false, List, [], length, map, get_or, slice_get, slice_index_or, Option, Some, None, IsTrue}
 use Rattle.std.specs.List.{All}
+use Rattle.std.specs.declared.alloc.Global.{Global}
 use Rattle.ttx_packet.specs.Slots.{IsSlot, is_clean}
 use Rattle.ttx_header.specs.Ids.{Id, IsId}
 use Rattle.ttx_page.specs.Pages.{Page}
@@ -21,17 +22,17 @@ use Rattle.ttx_page.specs.Streams.{repeated}
 use Rattle.ttx_page.specs.declared.item.Item.{Item}
 use Rattle.ttx_cycle.specs.Files.{IsCycle}
 use Rattle.ttx_certificate.specs.Certificates.{certificate_of}
-use Rattle.ttx_witness.specs.sent.Collected.{IsIndex, AreApart, IsItem, owner_for, place_of_item}
+use Rattle.ttx_witness.specs.sent.Collected.{IsIndex, AreApart, IsItem, owner_for}
 use Rattle.ttx_witness.specs.Coverage.{Certificate}
 use Rattle.ttx_certify.specs.walks.PageFacts.{FirstBelow, AreFacts}
 use Rattle.ttx_witness.specs.Elements.{HoldsAt}
-use Rattle.ttx_certify.specs.walks.SentSlots.{placed_in, IsLinked}
+use Rattle.ttx_certify.specs.walks.PackedTracks.{IsTrackedAt}
 use Rattle.ttx_witness.specs.faults.OtherSubpages as table
 use Rattle.ttx_witness.specs.faults.OtherSubpages.{AreAllSubcodes, HeadsOtherAt, TellsBelow}
-use Rattle.ttx_witness.specs.sent.ItemTransmissions.{PageOwner, owner_scan, sent_scan, sent_in, entry_owner}
+use Rattle.ttx_witness.specs.sent.ItemTransmissions.{PageOwner, owner_scan, sent_scan, entry_owner}
 use Rattle.ttx_witness.specs.declared.sent.owners.Owner.{Owner}
 use Rattle.ttx_certify.specs.declared.walks.page_facts.Facts.{Facts}
-use Rattle.ttx_certify.specs.declared.walks.sent_slots.SentSlots.{SentSlots}
+use Rattle.ttx_certify.specs.declared.walks.packed_track.PackedTrack.{PackedTrack}
 use Rattle.ttx_certify.specs.declared.walks.other_headers.OtherHeaders.{OtherHeaders}
 use Rattle.ttx_certify.specs.declared.walks.passes.Walk.{Walk}
 use Rattle.ttx_certify.specs.declared.walks.passes.Second.{Second}
@@ -67,13 +68,10 @@ pub record AreSeen (walk : Walk) (entry : Id → Option PageOwner) (y : List (Li
   pub each : (i : ℕ) (id : Id) → slice_get (ids walk) i ≡ Some id → IsId id → owner_for owners i id ≡ owner_scan id (repeated y) (entry id) (length y)
   pub apart : AreApart (ids walk) owners
 
--- what the slots send of each item of each page; they are not linked yet
-pub record AreListed (pages : List Page) (w : Certificate) (entry : Id → Option PageOwner) (y : List (List ℕ)) (sent : SentSlots) : Type 0 where
-  pub count : length sent.slots.items ≡ length y
-  pub places : length sent.firsts.items ≡ 26 * length pages
-  pub unlinked : (n : ℕ) → get_or sent.firsts.items n None ≡ None
-  pub each : (i : ℕ) (p : Page) (item : Item) → slice_get pages i ≡ Some p → IsItem item →
-      placed_in (place_of_item i item) sent.slots.items ≡ sent_scan p.id w.lines item (repeated y) (entry p.id) (length y)
+-- the track of each item of each page
+abbrev pub AreTracked : List Page → Certificate → (Id → Option PageOwner) → List (List ℕ) → List (Vec PackedTrack Global) → Type 0
+AreTracked pages w entry y tracks = (i : ℕ) (p : Page) (item : Item) → slice_get pages i ≡ Some p → IsItem item →
+    IsTrackedAt w p item (sent_scan p.id w.lines item (repeated y) (entry p.id) (length y)) i tracks
 
 -- the facts of each page
 abbrev pub AreNoted : List Page → Certificate → (Id → Option PageOwner) → List (List ℕ) → List Facts → Type 0
@@ -86,7 +84,7 @@ AreTold y others = (mag number : ℕ) → 1 ≤ mag → mag ≤ 8 → number < 2
     TellsBelow (HeadsOtherAt others.subcodes.items (repeated y) mag number) (length y) (get_or others.first.items (table.place mag number) None)
 
 pub record AreKept (walk : Walk) (entry : Id → Option PageOwner) (y : List (List ℕ)) : Type 0 where
-  pub sent : AreListed (walk_pages walk) (walk_certificate walk) entry y walk.sent
+  pub tracks : AreTracked (walk_pages walk) (walk_certificate walk) entry y walk.tracks.each.items
   pub facts : AreNoted (walk_pages walk) (walk_certificate walk) entry y walk.facts.items
   pub others : AreTold y walk.others
 
@@ -98,7 +96,7 @@ pub record Starts (walk : Walk) (x : List (List ℕ)) : Type 0 where
   pub owners : AreSeen walk (λ id. None) x walk.owners
   pub nothing : AreKept walk (λ id. None) []
 
--- Of the second list it keeps what the slots send, facts, and its owners, as if the owners before it were those at the end of the first.
+-- Of the second list it keeps tracks, facts, and its owners, as if the owners before it were those at the end of the first.
 pub record IsPassed (second : Second) (x y : List (List ℕ)) : Type 0 where
   pub count : second.walk.count ≡ length y
   pub owners : AreSeen second.walk (entry_owner x) y second.walk.owners
@@ -113,16 +111,13 @@ pub record Stands (second : Second) (x y : List (List ℕ)) : Type 0 where
   pub over : IsTrue second.over ↔ (65536 < length y)
   pub passed : length y ≤ 65536 → IsPassed second x y
 
--- The owners before the second list were the list's own, and the slots of each item are linked.
+-- The owners before the second list were the list's own.
 pub record IsEnded (ended : EndedWalk) (y : List (List ℕ)) : Type 0 where
   pub cycle : IsCycle y
   pub bad : FirstBelow (λ j. is_clean (slice_index_or y j []) ≡ false) (length y) ended.bad
   pub subcodes : AreAllSubcodes (ended_pages ended) (length ended.pages.now) ended.others.subcodes.items
   pub period : ended.period ≡ length y
-  pub places : length ended.sent.firsts.items ≡ 26 * length (ended_pages ended)
-  pub linked : IsLinked ended.sent.slots.items ended.sent.firsts.items ended.sent.nexts.items 0
-  pub sent : (i : ℕ) (p : Page) (item : Item) → slice_get (ended_pages ended) i ≡ Some p → IsItem item →
-      placed_in (place_of_item i item) ended.sent.slots.items ≡ sent_in y p.id (ended_certificate ended).lines item
+  pub tracks : AreTracked (ended_pages ended) (ended_certificate ended) (entry_owner y) y ended.tracks.each.items
   pub facts : AreNoted (ended_pages ended) (ended_certificate ended) (entry_owner y) y ended.facts.items
   pub others : AreTold y ended.others
 

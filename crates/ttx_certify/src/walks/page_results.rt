@@ -7,15 +7,16 @@ ghost use Rattle.ttx_page.specs.Views.{page_of};
 ghost use Rattle.ttx_witness.specs.faults.OtherSubpages as tables;
 
 use crate::walks::other_headers::OtherHeaders;
+use crate::walks::packed_tracks::unpack_track;
 use crate::walks::page_facts::{Facts, late_of};
-use crate::walks::progress::{finish, take_all};
-use crate::walks::sent_slots::SentSlots;
+use crate::walks::progress::finish;
+use crate::walks::tracks::{Tracks, repeat_of};
 use ttx_certificate::{Certificate, limit};
 use ttx_header::PageId;
 use ttx_page::Page;
 use ttx_witness::first_slots::{least_fault, with_other_subpage};
 use ttx_witness::subcodes::place;
-use ttx_witness::{Progress, Reason, item_of, nothing_confirmed, run_length};
+use ttx_witness::{Progress, Reason, item_of};
 
 /// What a cycle of `period` slots sends of the pages, with a certificate. `bad` is the first bad slot.
 #[derive(Drop)]
@@ -25,7 +26,7 @@ pub struct EndedWalk<'a> {
     pub period: u32,
     pub bad: Option<u32>,
     pub(crate) others: OtherHeaders,
-    pub(crate) sent: SentSlots,
+    pub(crate) tracks: Tracks,
     pub(crate) facts: Vec<Facts>,
 }
 
@@ -93,19 +94,17 @@ impl<'a> EndedWalk<'a> {
             starts.now ≡ (ended_certificate self.now).starts p.id item →
             IsProgress y p (ended_certificate self.now) item result }
     {
-        ttx_certificate::certificate_laws::certificates_keep_their_rules();
         ttx_witness::judging_laws::transmissions_are_listed();
         if starts.is_empty() {
             return None;
         }
-        if index >= self.sent.firsts.len() / 26 {
+        let Some(packed) = self.tracks.track(index, number) else {
             return None;
-        }
+        };
         let item = item_of(number);
-        let place = 26 * index + usize::from(number);
         let limit = limit(self.certificate);
-        let mut track = nothing_confirmed(run_length(self.certificate.repeat(), &item));
-        take_all(&mut track, &self.sent, place, starts, limit);
+        let repeat = repeat_of(self.certificate, &item);
+        let mut track = unpack_track(&packed, repeat);
         finish(&mut track, self.period, starts, limit);
         Some(track.progress)
     }

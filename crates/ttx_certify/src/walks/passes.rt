@@ -11,7 +11,7 @@ use crate::walks::other_headers::{OtherHeaders, note_other_header};
 use crate::walks::page_facts::{Facts, note_sent};
 use crate::walks::page_results::EndedWalk;
 use crate::walks::returning_owners::are_steady;
-use crate::walks::sent_slots::SentSlots;
+use crate::walks::tracks::Tracks;
 use thiserror::Error;
 use ttx_certificate::{Certificate, limit};
 use ttx_packet::clean;
@@ -34,7 +34,7 @@ pub struct Walk<'a> {
     pub(crate) certificate: &'a Certificate,
     pub(crate) index: PageIndex,
     pub(crate) others: OtherHeaders,
-    pub(crate) sent: SentSlots,
+    pub(crate) tracks: Tracks,
     pub(crate) facts: Vec<Facts>,
     pub(crate) owners: [Option<Owner>; 8],
     pub(crate) count: u32,
@@ -50,7 +50,7 @@ pub struct Second<'a> {
     pub(crate) over: bool,
 }
 
-// Takes one more slot: records what it sends, updates the facts, and then the owners.
+// Takes one more slot: updates the track of the item that it sends, the facts, and then the owners.
 fn take_slot(walk: &mut Walk, slot: &[u8; 42])
     requires few { walk.old.count < 65536 }
     ensures taken { (entry : Id → Option PageOwner) (y : List (List ℕ)) → AreReady walk.old → walk.old.count ≡ length y →
@@ -70,7 +70,7 @@ fn take_slot(walk: &mut Walk, slot: &[u8; 42])
     );
     let header = indexed_header(&walk.index, slot);
     let sent = sent_in_slot(&walk.owners, &header, slot, j as i32, lines);
-    walk.sent.note(sent);
+    walk.tracks.note(walk.pages, walk.certificate, sent);
     let numbered = NumberedSlot { bytes: slot, at: j };
     note_sent(&mut walk.facts, walk.pages, sent, &numbered, limit);
     note_other_header(&mut walk.others, &header, j);
@@ -151,15 +151,14 @@ impl<'a> Second<'a> {
             return None;
         }
         let bad = self.bad;
-        let mut walk = self.walk;
-        walk.sent.link();
+        let walk = self.walk;
         Some(EndedWalk {
             pages,
             certificate,
             period,
             bad,
             others: walk.others,
-            sent: walk.sent,
+            tracks: walk.tracks,
             facts: walk.facts,
         })
     }

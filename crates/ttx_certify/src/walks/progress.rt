@@ -1,63 +1,17 @@
-//! Compares the transmissions of an item in a period with the starts that are named for it.
+//! Takes the transmissions of an item that follow a period.
 
-ghost use Rattle.std.specs.Prelude.{◌≡◌, ◌↔◌, IsTrue, ◌<◌, ◌≤◌, ◌++◌, ◌∷◌, [], ℕ, List, length};
+ghost use Rattle.std.specs.Prelude.{◌≡◌, ◌↔◌, IsTrue, ◌<◌, ◌≤◌, ℕ, List};
 ghost use Rattle.std.specs.List.{All};
+ghost use Rattle.ttx_witness.specs.declared.runs.transmissions.Transmission.{Transmission};
 ghost use Rattle.ttx_witness.specs.runs.Confirming.{after_runs, not_begun};
-ghost use Rattle.ttx_certify.specs.walks.SentSlots.{IsLinked, placed_in};
-ghost use Rattle.ttx_witness.specs.sent.OneSlot.{told};
 ghost use Rattle.ttx_witness.specs.runs.Tracks.{IsTrack, IsWithin};
 ghost use Rattle.ttx_witness.specs.runs.Transmissions.{runs};
 
-use crate::walks::sent_slots::SentSlots;
+use crate::walks::packed_transmissions::is_small;
 use ttx_witness::Transmission;
 use ttx_witness::named_starts::{self, Track};
-use ttx_witness::one_slot::Sent;
 
-// Takes the next transmission.
-fn take(track: &mut Track, t: Transmission, starts: &[u32], limit: u32)
-    ensures { (k : ℕ) (ts : List Transmission) → k < 8 → IsTrack k limit starts.now ts track.old →
-        IsTrack k limit starts.now (ts ++ t ∷ []) track.new }
-{
-    if track.recent.repeat <= 8 {
-        named_starts::note(track, t, starts, limit);
-    }
-}
-
-// Takes the transmission in a slot, if there is one.
-fn take_sent(track: &mut Track, sent: Option<Sent>, starts: &[u32], limit: u32)
-    ensures { (k : ℕ) (ts : List Transmission) → k < 8 → IsTrack k limit starts.now ts track.old →
-        IsTrack k limit starts.now (ts ++ told sent) track.new }
-{
-    if let Some(sent) = sent {
-        take(track, sent.transmission, starts, limit);
-    }
-}
-
-/// Takes the transmissions of the item at `place`, in order.
-pub fn take_all(track: &mut Track, sent: &SentSlots, place: usize, starts: &[u32], limit: u32)
-    ensures { (k : ℕ) → k < 8 → IsLinked sent.now.slots.items sent.now.firsts.items sent.now.nexts.items 0 →
-        place < length sent.now.firsts.items → IsTrack k limit starts.now [] track.old →
-        IsTrack k limit starts.now (placed_in place sent.now.slots.items) track.new }
-{
-    let mut at = sent.first(place);
-    for i in 0..sent.slots.len() {
-        let Some(slot) = at else {
-            return;
-        };
-        let slot = usize::from(slot);
-        take_sent(track, sent.sent(slot), starts, limit);
-        at = sent.next(slot);
-    }
-}
-
-// Whether the slot and owner of a transmission are in the range in which no sum overflows.
-fn is_small(t: Transmission) -> bool
-    ensures { IsTrue result ↔ IsWithin 65536 t }
-{
-    -65536 <= t.slot && t.slot <= 65536 && -65536 <= t.owner && t.owner <= 65536
-}
-
-// The same for all transmissions.
+// Whether the numbers of all transmissions are small.
 fn are_small(ts: &[Transmission]) -> bool
     ensures { IsTrue result ↔ All (IsWithin 65536) ts.now }
 {

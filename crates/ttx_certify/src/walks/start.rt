@@ -9,7 +9,7 @@ ghost use Rattle.ttx_witness.specs.faults.FirstSlots.{none_yet};
 use crate::walks::other_headers::OtherHeaders;
 use crate::walks::page_facts::Facts;
 use crate::walks::passes::Walk;
-use crate::walks::sent_slots::SentSlots;
+use crate::walks::tracks::Tracks;
 use std::alloc::Global;
 use ttx_certificate::{Certificate, NoMemory};
 use ttx_page::Page;
@@ -40,8 +40,8 @@ impl<'a> Walk<'a> {
     ghost use Rattle.ttx_certificate.specs.Certificates.{certificate_of};
     ghost use Rattle.ttx_certify.specs.walks.Passing.{Starts, walk_pages, walk_certificate};
 
-    /// A walk over the pages, whose ids are distinct, with the certificate. Allocates all memory of the walk. The walk keeps no packet, only
-    /// which item of which page each slot of the second list sends.
+    /// A walk over the pages, whose ids are distinct, with the certificate. Allocates all memory of the walk. The walk keeps no packet and no
+    /// record of each slot, only facts about each page and the track of each item.
     pub fn new(
         alloc: Global,
         pages: &'a [Page],
@@ -57,14 +57,14 @@ impl<'a> Walk<'a> {
         let subcodes = subcodes_of(alloc, pages)?;
         let first = none_told(alloc)?;
         let others = OtherHeaders { subcodes, first };
-        let sent = SentSlots::new(alloc, pages.len())?;
+        let tracks = Tracks::new(alloc, pages.len())?;
         let facts = no_facts(alloc, pages.len())?;
         Ok(Walk {
             pages,
             certificate,
             index,
             others,
-            sent,
+            tracks,
             facts,
             owners: [None; 8],
             count: 0,

@@ -7,7 +7,8 @@ ghost use Rattle.ttx_cycle.specs.Cycles.{slots_of};
 ghost use Rattle.ttx_files.specs.Answers.{IsUntouched};
 ghost use Rattle.ttx_files.specs.Devices.{AtCycle, AtService};
 ghost use Rattle.ttx_tool.specs.Devices.{is_tool_write, Fails, Reads, read_from, written_to};
-ghost use Rattle.ttx_tool.specs.FindDeadline.{TellsRefused, TellsAsked, IsAskedAndTold, AsksText, AsksFiles};
+ghost use Rattle.ttx_tool.specs.FindDeadline.{TellsRefused, WritesAsked, IsAskedAndTold, AsksText, AsksFiles};
+ghost use Rattle.ttx_tool.specs.PlannedFiles.{MakesCertified};
 
 use super::find::tell_deadline;
 use crate::faults::ToolFault;
@@ -45,7 +46,7 @@ fn tell_verdict(
     pages: usize,
     verdict: Verdict,
 ) -> Result<Filed<u8>, NoMemory>
-    ensures { IfOk result (λ told. TellsAsked (fields_of certificate.now) deadline pages verdict told.file.items (string_bytes told.line)
+    ensures { IfOk result (λ told. WritesAsked (fields_of certificate.now) deadline pages verdict told.file.items (string_bytes told.line)
         told.verdict) }
 {
     match verdict {
@@ -110,7 +111,7 @@ fn find_text<A: Read, B: Read>(
 /// Reads a packet file and the text of a service, and gives the certificate of `find::run` the deadline that is asked for. If the cycle is
 /// accepted with it, which is so exactly if the least deadline is at most the one that is asked for, writes the text of the certificate to
 /// the file and the deadline to the other writer: the status is 0. Otherwise it writes nothing to the file, and to the other writer the verdict,
-/// which is a rejection: the status is 1.
+/// which is a rejection: the status is 1. If the status is 0 and the file was empty, `certify` says yes to what was written to it.
 ///
 /// Nothing is written before everything is found. After `Write` exactly the first `written` bytes of both went out, the file's before the
 /// line's; after any other fault both writers are unchanged.
@@ -129,10 +130,13 @@ pub fn run<A: Read, B: Read, O: Write, W: Write>(
     ensures bytes { IfSome (A.remaining (inner_of cycle.old)) (λ a. IfSome (B.remaining (inner_of service.old)) (λ b. AsksFiles a b asked
         (O.contents (inner_of file.old)) (O.contents (inner_of file.new)) (W.contents (inner_of writer.old)) (W.contents (inner_of writer.new))
         result)) }
+    ensures certified { IfSome (A.remaining (inner_of cycle.old)) (λ a. IfSome (B.remaining (inner_of service.old)) (λ b. MakesCertified a b
+        (O.contents (inner_of file.old)) (O.contents (inner_of file.new)) result)) }
     ensures faults { Fails (read_from AtCycle A.remaining cycle.old cycle.new ∷ read_from AtService B.remaining service.old service.new
         ∷ written_to file.old file.new ∷ written_to writer.old writer.new ∷ []) result }
     ensures untouched { IsUntouched is_tool_write result file.old file.new × IsUntouched is_tool_write result writer.old writer.new }
 {
+    crate::laws::asked_is_certified();
     let told = find_text(alloc, cycle, service, asked)?;
     match write_both(file, told.file.as_slice(), writer, told.line.as_bytes()) {
         Ok(()) => Ok(told.verdict),

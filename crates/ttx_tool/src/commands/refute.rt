@@ -223,6 +223,8 @@ fn refute_text<A: Read, B: Read, C: Read>(
 /// saved, and its line, or its JSON object, to the other writer: the status is 1. Where there is none, writes nothing to the file, and that there is
 /// none to the other writer: the status is 0. A certificate of class clearing gives `Class`.
 ///
+/// The counter-run concerns the first page that is not sent well. If all are, it concerns the first page of which a plain run ends wrong.
+///
 /// Nothing is written before all is found. After `Write` exactly the first `written` bytes of both went out, the file's before the
 /// line's; after any other fault both writers are unchanged.
 pub fn run<A: Read, B: Read, C: Read, O: Write, W: Write>(

@@ -6,7 +6,7 @@ use Rattle.ttx_source.specs.PromiseViews.{promise_view}
 use Rattle.ttx_stays.specs.ShortNumbers.{short_text}
 use Rattle.ttx_numbers.proofs.NumberedPages.{value_got}
 use Rattle.ttx_mistakes.specs.NoteViews.{note_views}
-use Rattle.ttx_mistakes.specs.StayNotes.{line_note, page_path}
+use Rattle.ttx_mistakes.specs.StayNotes.{line_note, key_path}
 use Rattle.ttx_mistakes.proofs.stay_notes.push_short_note.Goals as goal
 
 pub returns-in_default : goal.returns-in_default
@@ -14,7 +14,7 @@ returns-in_default c =
     let pages = map page_of c.args.pages.now in
     let stays = map promise_view c.args.stays.now in
     let old = note_views c.args.notes.now.items in
-    let path = page_path c.args.index (codes "/number") in
+    let path = key_path c.args.index (codes "number") in
     let there = value_got c.args.pages.now c.args.index None c.in_default.ensures.lookup in
     sym (append-nil old) ∙ ap (λ o. old ++ line_note path (short_text pages stays c.args.index o)) (sym there)
 
@@ -24,7 +24,7 @@ returns c =
     let stays = map promise_view c.args.stays.now in
     let old = note_views c.args.notes.now.items in
     let new = note_views c.push_line.new.notes.items in
-    let path = page_path c.args.index (codes "/number") in
+    let path = key_path c.args.index (codes "number") in
     let there = value_got c.args.pages.now c.args.index (Some c.in-Some.page) c.in-Some.ensures.lookup in
     let told = short_text pages stays c.args.index (Some (page_of c.in-Some.page.now)) in
     let line : c.as_bytes.result.now ≡ told =

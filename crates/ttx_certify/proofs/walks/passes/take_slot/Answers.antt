@@ -1,12 +1,13 @@
-use Rattle.std.proofs.Common.{rules, ◌≡◌, ◌+◌, ◌<◌, ◌++◌, ◌∷◌, [], length, get_or, None, sym, ap, ◌∙◌, subst, arith, length-append}
+use Rattle.std.proofs.Common.{rules, ◌≡◌, ◌++◌, ◌∷◌, [], length, get_or, None, sym, subst}
 use Rattle.ttx_page.specs.Streams.{repeated}
 use Rattle.ttx_witness.specs.Coverage.{Certificate, IsCertificate}
 use Rattle.ttx_witness.specs.sent.Collected.{owner_for}
 use Rattle.ttx_witness.specs.faults.OtherSubpages.{place, AreAllSubcodes, HeadsOtherAt, TellsBelow}
 use Rattle.ttx_witness.proofs.SentItems.{ids_are, id_of_page}
+use Rattle.ttx_certify.specs.walks.PackedTracks.{IsTrackedAt}
 use Rattle.ttx_certify.specs.walks.Passing.{ids, walk_pages, walk_certificate}
 use Rattle.ttx_certify.proofs.walk_lemmas.GrowingLists.{owner_grown, others_more}
-use Rattle.ttx_certify.proofs.walk_lemmas.AfterOneSlot.{listed_more, facts_more}
+use Rattle.ttx_certify.proofs.walk_lemmas.AfterOneSlot.{grown, facts_more}
 use Rattle.ttx_certify.proofs.walks.passes.take_slot.Goals as goal
 
 pub returns-clause-ready : goal.returns-clause-ready
@@ -25,8 +26,6 @@ returns-clause-taken c = λ entry y ready count seen kept.
     let w : Certificate = walk_certificate walk in
     let is : IsCertificate w = (c.certificates_keep_their_rules.ensures walk.certificate.now).1 in
     let end : walk.count ≡ length y = count in
-    let room : length walk.sent.slots.items < 65536 = (let k = kept.sent.count in let f = c.requires.few in omega arith) in
-    let grows = c.note.ensures.slots room in
     let read = c.indexed_header-header.ensures (ids walk) ready.index in (
       record {
         each = λ i id at is_id. owner_grown y z id (entry id) (owner_for walk.owners i id) (owner_for c.note_owner.new.owners i id) _
@@ -35,19 +34,14 @@ returns-clause-taken c = λ entry y ready count seen kept.
         apart = c.note_owner.ensures.apart (ids walk) z read seen.apart;
       },
       record {
-        sent = record {
-          count = ap length grows ∙ length-append walk.sent.slots.items (c.sent_in_slot-sent.result ∷ [])
-              ∙ ap (λ n. n + 1) kept.sent.count ∙ sym (length-append y (z ∷ []));
-          places = ap (λ v. length v.items) c.note.ensures.firsts ∙ kept.sent.places;
-          unlinked = λ n. ap (λ v. get_or v.items n None) c.note.ensures.firsts ∙ kept.sent.unlinked n;
-          each = λ i p item at it.
-              let at_id = id_of_page walk.pages.now i p at in
-              listed_more w is p i c.sent_in_slot-sent.result y z (entry p.id) (owner_for walk.owners i p.id) _ (search (rules, end))
-              (seen.each i p.id at_id (ids_are c.pages_keep_their_rules.ensures walk.pages.now i p.id at_id))
-              c.lines-lines.result c.lines-lines.ensures
-              (λ item it. c.sent_in_slot-sent.ensures.sent (ids walk) read seen.apart i p.id item at_id it)
-              item it walk.sent.slots.items c.note.new.self.slots.items grows (kept.sent.each i p item at it);
-        };
+        tracks = λ i p item at it.
+            let at_id = id_of_page walk.pages.now i p at in
+            subst (λ ts. IsTrackedAt w p item ts i c.note.new.self.each.items)
+            (grown w is p i c.sent_in_slot-sent.result y z (entry p.id) (owner_for walk.owners i p.id) _ (search (rules, end))
+            (seen.each i p.id at_id (ids_are c.pages_keep_their_rules.ensures walk.pages.now i p.id at_id))
+            c.lines-lines.result c.lines-lines.ensures
+            (λ item it. c.sent_in_slot-sent.ensures.sent (ids walk) read seen.apart i p.id item at_id it) item it)
+            (c.note.ensures i p item _ at it (kept.tracks i p item at it));
         facts = λ i p at.
             let h = kept.facts i p at in
             let t = c.note_sent.ensures.noted i p h.value at h.here in

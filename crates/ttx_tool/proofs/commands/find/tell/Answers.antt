@@ -1,4 +1,4 @@
-use Rattle.std.proofs.Common.{◌≤◌, length, Some, None, sym, subst, string_bytes}
+use Rattle.std.proofs.Common.{◌≤◌, length, Some, None, refl, sym, subst, string_bytes}
 use Rattle.std.proofs.lemmas.Result.{IfOk-weaker}
 use Rattle.ttx_certify.proofs.PageByPage.{are_pages}
 use Rattle.ttx_certify.specs.Laws.{ArePages}
@@ -21,7 +21,8 @@ returns-in-Some c =
     let cycle_is = slots_of-IsCycle c.args.cycle.now in
     let found = subst (λ d. IsFoundFor slots (pages_of service) c.args.repeat service.lines c.args.class
     (certificate_of c.in_ok-found.found.certificate) d) c.in-Some.is c.in_ok-found.ensures in
-    let short = found_is_short slots (pages_of service) c.args.repeat service.lines c.args.class w (Some c.in-Some.deadline) found rules.0
+    let short = found_is_short slots (pages_of service) c.args.repeat service.lines c.args.class (certificate_of c.in_ok-found.found.certificate)
+    (Some c.in-Some.deadline) found w refl rules.0
     cycle_is.most in
     let pages : ArePages (pages_of service) = subst ArePages c.pages-pages.ensures.value
     (are_pages c.pages_keep_their_rules.ensures c.pages-pages.result.now) in
@@ -29,7 +30,8 @@ returns-in-Some c =
     found.least.1 in
     IfOk-weaker c.tell_deadline.result _ _ (λ t h. record {
       w = w;
-      fields = (c.certificates_keep_their_rules.ensures c.in_ok-found.found.certificate).0;
+      fields = rules.0;
+      ranges = rules.1;
       deadline = c.in_ok-found.found.deadline;
       found = c.in_ok-found.ensures;
       told = subst (λ d. TellsFound (slots_of c.args.cycle.now) c.args.service.now w d t.file.items (string_bytes t.line) t.verdict)
@@ -41,13 +43,14 @@ returns c =
     let w = fields_of c.in_ok-found.found.certificate in
     let slots = slots_of c.args.cycle.now in
     let service = c.args.service.now in
-    let is = (c.certificates_keep_their_rules.ensures c.in_ok-found.found.certificate).1 in
+    let rules = c.certificates_keep_their_rules.ensures c.in_ok-found.found.certificate in
     let found = subst (λ d. IsFoundFor slots (pages_of service) c.args.repeat service.lines c.args.class
     (certificate_of c.in_ok-found.found.certificate) d) c.in-None.is c.in_ok-found.ensures in
     IfOk-weaker c.tell_verdict.result _ _ (λ t h. record {
       w = w;
-      fields = (c.certificates_keep_their_rules.ensures c.in_ok-found.found.certificate).0;
+      fields = rules.0;
+      ranges = rules.1;
       deadline = None;
       found = found;
-      told = says_no slots service c.args.repeat c.args.class w is found t.file.items (string_bytes t.line) t.verdict h;
+      told = says_no slots service c.args.repeat c.args.class w rules.1 found t.file.items (string_bytes t.line) t.verdict h;
     }) c.tell_verdict.ensures

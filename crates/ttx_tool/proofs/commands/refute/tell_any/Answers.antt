@@ -1,9 +1,9 @@
-use Rattle.std.proofs.Common.{◌≡◌, ◌↔◌, [], ◌∷◌, ◌++◌, true, map, codes, is_some, string_bytes, Some, None, subst, arith}
+use Rattle.std.proofs.Common.{◌≡◌, ◌↔◌, [], true, map, is_some, string_bytes, Some, None, subst, arith}
 use Rattle.std.proofs.lemmas.List.{length-map}
 use Rattle.std.proofs.lemmas.Option.{slice_get_within}
 use Rattle.std.specs.Prelude.{slice_get}
 use Rattle.ttx_counter.specs.Counters.{counter_run_of}
-use Rattle.ttx_counter.specs.Refutations.{TellsCounter}
+use Rattle.ttx_counter.specs.Refutations.{TellsCounter, TellsFirst}
 use Rattle.ttx_cycle.specs.Cycles.{slots_of}
 use Rattle.ttx_page.specs.Pages as definitions
 use Rattle.ttx_page.specs.Views.{page_of}
@@ -35,6 +35,7 @@ returns-in-Some c =
     let w = certificate_of c.args.certificate.now in
     let run = counter_run_of c.in-Some.counter in
     let told = subst (TellsCounter counter_run_of slots pages w) c.in-Some.is c.in_ok-counter.ensures.tells in
+    let first = subst (TellsFirst counter_run_of slots pages w) c.in-Some.is c.in_ok-counter.ensures.first in
     let exact = subst (λ o. IsSentUnchanged slots pages → (is_some o ≡ true)
     ↔ (CanBeAccepted slots pages Any w.lines w.repeat w.deadline → ⊥)) c.in-Some.is c.in_ok-counter.ensures.exact in
     all_three (λ t. (p : definitions.Page) → slice_get pages run.page ≡ Some p → string_bytes t.line ≡ said_counter c.args.asked.json p.id run)
@@ -44,7 +45,7 @@ returns-in-Some c =
     (λ t line file status. refutation slots pages c.args.service.now
     (fields_of c.args.certificate.now) c.args.asked c.pages-pages.ensures.value c.requires (Some run) exact
     t.file.items (string_bytes t.line) t.verdict
-    (record { is = told; page = told.is.page; here = told.is.here; same = line told.is.page told.is.here }, file, status))
+    (record { is = told; first = first; page = told.is.page; here = told.is.here; same = line told.is.page told.is.here }, file, status))
     c.tell_counter.ensures.line c.tell_counter.ensures.file c.tell_counter.ensures.status
 
 pub returns-in-None : goal.returns-in-None

@@ -1,9 +1,7 @@
-use Rattle.std.proofs.Common.{◌≡◌, ℕ, ◌≤◌, [], length, slice_get, Some, refl, ap, subst, ◌∙◌, inl, inr, arith}
+use Rattle.std.proofs.Common.{◌≡◌, ℕ, ◌≤◌, [], length, slice_get, Some, refl, ap, subst, inl, inr, arith}
 use Rattle.std.proofs.lemmas.Bool.{cases_lt}
 use Rattle.ttx_page.specs.Pages.{Page}
-use Rattle.ttx_witness.specs.sent.Collected.{place_of_item}
 use Rattle.ttx_certify.specs.walks.Passing.{IsBorneOut, second_pages}
-use Rattle.ttx_certify.specs.walks.SentSlots.{placed_in}
 use Rattle.ttx_witness.specs.sent.ItemTransmissions.{entry_owner}
 use Rattle.ttx_certify.proofs.walk_lemmas.EndOfList.{empty_is, page_of_id, again, own}
 use Rattle.ttx_witness.proofs.SentItems.{ids_are, id_of_page}
@@ -60,9 +58,7 @@ returns c = λ x y st.
         bad = v.bad;
         subcodes = st.ready.subcodes;
         period = v.count;
-        places = c.link.ensures.places ∙ kept.sent.places;
-        linked = c.link.ensures.linked kept.sent.unlinked;
-        sent = λ i p item at it. ap (λ v. placed_in (place_of_item i item) v.items) c.link.ensures.slots ∙ kept.sent.each i p item at it;
+        tracks = kept.tracks;
         facts = kept.facts;
         others = kept.others;
       },

@@ -26,12 +26,7 @@ returns-clause-stands c = λ x old.
         count = refl;
         owners = record { each = entry; apart = λ m i id lt at d. c.all_moved-entry.ensures.foreign m i lt (old.owners.apart m i id lt at d) };
         kept = record {
-          sent = record {
-            count = old.nothing.sent.count;
-            places = old.nothing.sent.places;
-            unlinked = old.nothing.sent.unlinked;
-            each = old.nothing.sent.each;
-          };
+          tracks = old.nothing.tracks;
           facts = λ i p at. let f = old.nothing.facts i p at
               in record {
                 value = f.value;

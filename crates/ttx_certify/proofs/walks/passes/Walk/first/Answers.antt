@@ -20,5 +20,5 @@ returns-clause-stands c = λ x old.
             (c.note_owner.ensures.after (ids walk) z read i id at is);
         apart = c.note_owner.ensures.apart (ids walk) z read old.owners.apart;
       };
-      nothing = record { sent = old.nothing.sent; facts = old.nothing.facts; others = old.nothing.others };
+      nothing = record { tracks = old.nothing.tracks; facts = old.nothing.facts; others = old.nothing.others };
     }
