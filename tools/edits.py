@@ -12,9 +12,10 @@ tried together again, and in the end alone, as are mutants of definitions, types
 
 Each result is written to tools/edits.tsv at once, one line for a mutant: the crate, the edit, the heading, the checksums of the mutant and
 of all that it is tried on, the verdict, the refused function or lemma, and how. What it is tried on are the sources of the crate, what
-another crate's check can read of the crates below (all but private functions, the bodies of functions and their written proofs), each
-without comments, and the logic. A later run tries only mutants that no line with these checksums says to be refused; --anew tries all. --joined leaves out those that
-have an edit file of their own, which the gate has tried by itself. --stale tries nothing, and lists the mutants without such a line.
+another crate's check can read of the crates below (all but functions that it cannot call, the bodies of functions and their written
+proofs), each without comments, and the logic. A later run tries only mutants that no line with these checksums says to be refused; --anew
+tries all. --joined leaves out those that have an edit file of their own, which the gate has tried by itself. --stale tries nothing, and
+lists the mutants without such a line.
 
 The status is 1 if a mutant is not refused for want of a proof, if a heading does not name the functions that its mutant changes, if two
 mutants of one edit file change one function, or if a mutant that the record has is gone: --forget drops its line.
@@ -47,8 +48,9 @@ ITEM = re.compile(r"\s*(?:pub(?:\([a-z]+\))? )?(?:const |unsafe )?(?:fn|struct|e
 FUNCTION = re.compile(r"\s*(?:pub(?:\([a-z]+\))? )?(?:const |unsafe )?fn ")
 IMPL = re.compile(r"impl\s*(?:[\w:]+\s+for\s+)?(?:\w+::)*(\w+)")
 # a function whose body no other crate reads, and what may make a body known to others: the macros, traits and constants of its file
-FUNCTION_HEAD = re.compile(r"(\s*)(pub(?:\([a-z]+\))? )?fn ")
+FUNCTION_HEAD = re.compile(r"(\s*)(pub(?:\([a-z]+\))? )?fn (\w+)")
 OPEN_BODY = re.compile(r"\s*(?:#\[macro|macro_rules!|(?:pub(?:\([a-z]+\))? )?(?:unsafe )?trait |.*\bconst fn )")
+REEXPORT = re.compile(r"^\s*pub use ([^;]*);", re.M)
 # the written proof of a function, which is private to it
 PROOFS = {"Answers.antt", "Invariants.antt", "Proof.antt"}
 DEFINITION = re.compile(r"(?:pub )?(?:abbrev |unfoldable |record |data )*(?:pub )?(?!where\b|unfolding\b|use\b|mod\b|--)([^\s:{})]+)")
@@ -115,9 +117,23 @@ def code_lines(path):
     return [line for line in path.read_text().split("\n") if not line.lstrip().startswith(COMMENTS[path.suffix])]
 
 
-def statements_of(lines):
-    """The lines of a source without the bodies of its functions, and without its private functions, whose place a blank line takes. rt fmt
-    puts a body between lines of the function's own indent."""
+@functools.cache
+def reexported(name):
+    """The words in a crate's `pub use`: what its private modules give to other crates is among them."""
+    texts = [file.read_text() for file in sorted(pathlib.Path("crates", name, "src").rglob("*.rt"))]
+    return {word for text in texts for it in REEXPORT.findall(text) for word in re.findall(r"\w+|\*", it)}
+
+
+def is_reachable(path, function):
+    """Whether another crate may call a public function that stands at the top level of a file: its module is public, or reexports it."""
+    _, name, _, top, *_ = path.with_suffix("").parts
+    private = re.search(rf"^mod {top};", pathlib.Path("crates", name, "src/lib.rt").read_text(), re.M) if top not in ("lib", "main") else None
+    return private is None or not reexported(name).isdisjoint({function, "*"})
+
+
+def statements_of(path, lines):
+    """The lines of a source without the bodies of its functions, and without the functions that no other crate can call, whose place a blank
+    line takes. rt fmt puts a body between lines of the function's own indent."""
     if any(OPEN_BODY.match(line) for line in lines):
         return lines
     kept, is_of_trait, head = [], False, None
@@ -125,7 +141,9 @@ def statements_of(lines):
         if line.startswith("impl"):
             is_of_trait = " for " in line
         if head is None and (found := FUNCTION_HEAD.match(line)):
-            head, is_in_body, is_public = found[1], False, found[2] == "pub " or (is_of_trait and found[1] != "")
+            head, is_in_body = found[1], False
+            is_method, is_pub = found[1] != "", found[2] == "pub "
+            is_public = is_pub or is_of_trait if is_method else is_pub and is_reachable(path, found[3])
         is_kept = head is None or (is_public and (not is_in_body or line == f"{head}}}"))
         if is_kept and (line or kept[-1:] != [""]):
             kept.append(line)
@@ -147,7 +165,7 @@ def sum_of_file(path):
 def sum_of_statements(path):
     """The checksum of what another crate's check can read of a file."""
     lines = code_lines(path)
-    return checksum("\n".join(statements_of(lines) if path.suffix == ".rt" else lines).encode())
+    return checksum("\n".join(statements_of(path, lines) if path.suffix == ".rt" else lines).encode())
 
 
 def sum_of_sources(known, name, logic):
