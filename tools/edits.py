@@ -12,8 +12,8 @@ tried together again, and in the end alone, as are mutants of definitions, types
 
 Each result is written to tools/edits.tsv at once, one line for a mutant: the crate, the edit, the heading, the checksums of the mutant and
 of all that it is tried on, the verdict, the refused function or lemma, and how. What it is tried on are the sources of the crate, what
-another crate's check can read of the crates below (all but functions that it cannot call, the bodies of functions and their written
-proofs), each without comments, and the logic. A later run tries only mutants that no line with these checksums says to be refused; --anew
+another crate's check can read of the crates below (all but functions that it cannot call, the bodies of functions, and proofs that nothing
+cites), each without comments, and the logic. A later run tries only mutants that no line with these checksums says to be refused; --anew
 tries all. --joined leaves out those that have an edit file of their own, which the gate has tried by itself. --stale tries nothing, and
 lists the mutants without such a line.
 
@@ -51,8 +51,8 @@ IMPL = re.compile(r"impl\s*(?:[\w:]+\s+for\s+)?(?:\w+::)*(\w+)")
 FUNCTION_HEAD = re.compile(r"(\s*)(pub(?:\([a-z]+\))? )?fn (\w+)")
 OPEN_BODY = re.compile(r"\s*(?:#\[macro|macro_rules!|(?:pub(?:\([a-z]+\))? )?(?:unsafe )?trait |.*\bconst fn )")
 REEXPORT = re.compile(r"^\s*pub use ([^;]*);", re.M)
-# the written proof of a function, which is private to it
-PROOFS = {"Answers.antt", "Invariants.antt", "Proof.antt"}
+# a lemma of another crate, in a proof and in a source
+CITED = re.compile(r"\bRattle\.(ttx_\w+)\.proofs\.([\w.+-]+)|\b(ttx_\w+)::proofs::([\w:]+)")
 DEFINITION = re.compile(r"(?:pub )?(?:abbrev |unfoldable |record |data )*(?:pub )?(?!where\b|unfolding\b|use\b|mod\b|--)([^\s:{})]+)")
 
 # (a function that only calls one that is not proved is not refused itself)
@@ -133,7 +133,7 @@ def is_reachable(path, function):
 
 def statements_of(path, lines):
     """The lines of a source without the bodies of its functions, and without the functions that no other crate can call, whose place a blank
-    line takes. rt fmt puts a body between lines of the function's own indent."""
+    line takes; nothing where only imports and attributes are left. rt fmt puts a body between lines of the function's own indent."""
     if any(OPEN_BODY.match(line) for line in lines):
         return lines
     kept, is_of_trait, head = [], False, None
@@ -153,7 +153,8 @@ def statements_of(path, lines):
             head = None
         elif re.fullmatch(rf"{head}(?:[^\s}}].*)?\{{", line):
             is_in_body = True
-    return kept
+    is_empty = all(not line or line.startswith(("use ", "ghost use ", "#[")) for line in kept)
+    return [] if is_empty else kept
 
 
 @functools.cache
@@ -168,12 +169,34 @@ def sum_of_statements(path):
     return checksum("\n".join(statements_of(path, lines) if path.suffix == ".rt" else lines).encode())
 
 
+@functools.cache
+def cited_by(path):
+    """The files of lemmas that a file cites."""
+    found = set()
+    for it in CITED.finditer("\n".join(code_lines(path))):
+        crate, parts = it[1] or it[3], re.split(r"\.|::", (it[2] or it[4]).rstrip(".:"))
+        places = [pathlib.Path("crates", crate, "proofs", *parts[:most]).with_suffix(".antt") for most in range(len(parts), 0, -1)]
+        found.update([place for place in places if place.is_file()][:1])
+    return found
+
+
+def cited(paths):
+    """The files of lemmas that these files cite, also by way of other lemmas."""
+    found, left = set(), set(paths)
+    while left := {it for path in left for it in cited_by(path)} - found:
+        found |= left
+    return found
+
+
 def sum_of_sources(known, name, logic):
     """The checksum of all that a crate's mutants are tried on."""
     names = below(known, name)
+    mine, others = sources([name]), [it for it in sources(names) if it.parts[1] != name]
+    statements = [it for it in others if it.parts[2] != "proofs"]
+    lemmas = cited([*mine, *statements])
     told = [logic, *[f"{it}: {' '.join(known[it])}" for it in names]]
-    told += [f"{it} {sum_of_file(it)}" for it in sources([name])]
-    told += [f"{it} {sum_of_statements(it)}" for it in sources(names) if it.parts[1] != name and it.name not in PROOFS]
+    told += [f"{it} {sum_of_file(it)}" for it in mine]
+    told += [f"{it} {sum_of_statements(it)}" for it in others if it.parts[2] != "proofs" or it in lemmas]
     return checksum("\n".join(told).encode())
 
 

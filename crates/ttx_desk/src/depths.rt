@@ -1,6 +1,6 @@
 //! How deeply arrays and tables are nested.
 
-ghost use Rattle.std.specs.Prelude.{◌≤◌, IsTrue};
+ghost use Rattle.std.specs.Prelude.{◌≤◌, ◌↔◌, IsTrue};
 ghost use Rattle.toml.specs.Data.{depth, items_depth, members_depth};
 ghost use Rattle.toml.specs.View.{items_view, table_view, view};
 
@@ -9,7 +9,7 @@ use toml::{Table, Value};
 // Whether arrays and tables in a value are nested at most so deeply.
 #[cycle(depth)]
 fn is_value_within(value: &Value, most: usize) -> bool
-    ensures { IsTrue result → depth (view value.now) ≤ most }
+    ensures { IsTrue result ↔ (depth (view value.now) ≤ most) }
 {
     match value {
         Value::Array(items) => most > 0 && are_items_within(items.as_slice(), most - 1),
@@ -20,7 +20,7 @@ fn is_value_within(value: &Value, most: usize) -> bool
 
 #[cycle(depth)]
 fn are_items_within(items: &[Value], most: usize) -> bool
-    ensures { IsTrue result → items_depth (items_view items.now) ≤ most }
+    ensures { IsTrue result ↔ (items_depth (items_view items.now) ≤ most) }
 {
     for item in items {
         if !is_value_within(item, most) {
@@ -33,7 +33,7 @@ fn are_items_within(items: &[Value], most: usize) -> bool
 /// Whether arrays and tables in a table are nested at most so deeply.
 #[cycle(depth)]
 pub fn is_within(table: &Table, most: usize) -> bool
-    ensures { IsTrue result → members_depth (table_view table.now) ≤ most }
+    ensures { IsTrue result ↔ (members_depth (table_view table.now) ≤ most) }
 {
     for (_key, value) in table.iter() {
         if !is_value_within(value, most) {

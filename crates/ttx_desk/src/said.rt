@@ -1,6 +1,6 @@
 //! Whether a service has what an author wrote.
 
-ghost use Rattle.std.specs.Prelude.{◌≡◌, ◌<◌, ℕ, [], Ok, IsTrue, IfOk, option_map, slice_index_or};
+ghost use Rattle.std.specs.Prelude.{◌≡◌, ◌<◌, ℕ, [], Ok, ◌↔◌, IsTrue, IfOk, option_map, slice_index_or};
 ghost use Rattle.toml.specs.Data.{get_item};
 ghost use Rattle.toml.specs.View.{table_view, items_view, view};
 ghost use Rattle.ttx_author.specs.Options.{option_number};
@@ -51,7 +51,7 @@ fn author_head(alloc: Global, page: &Table) -> Result<Vec<char>, AllocError>
 
 // Whether a text means these characters of row 0.
 fn is_head(text: &[char], option: NationalOption, head: &[u8; 24]) -> bool
-    ensures { IsTrue result → line_of 24 (option_number option) text.now ≡ Ok head.now }
+    ensures { IsTrue result ↔ (line_of 24 (option_number option) text.now ≡ Ok head.now) }
 {
     match head_of(text, option) {
         Ok(codes) => codes == *head,
@@ -61,7 +61,7 @@ fn is_head(text: &[char], option: NationalOption, head: &[u8; 24]) -> bool
 
 // Whether a text means these characters of a row.
 fn is_row(text: &[char], option: NationalOption, row: &[u8; 40]) -> bool
-    ensures { IsTrue result → line_of 40 (option_number option) text.now ≡ Ok row.now }
+    ensures { IsTrue result ↔ (line_of 40 (option_number option) text.now ≡ Ok row.now) }
 {
     match row_of(text, option) {
         Ok(codes) => codes == *row,
@@ -105,8 +105,8 @@ fn are_rows(
     option: NationalOption,
     rows: &[[u8; 40]; 24],
 ) -> Result<bool, AllocError>
-    ensures { IfOk result (λ said. IsTrue said → (index : ℕ) → index < 24
-        → line_of 40 (option_number option) (rule.author_row (table_view author.now) index) ≡ Ok (slice_index_or rows.now index [])) }
+    ensures { IfOk result (λ said. IsTrue said ↔ ((index : ℕ) → index < 24
+        → line_of 40 (option_number option) (rule.author_row (table_view author.now) index) ≡ Ok (slice_index_or rows.now index []))) }
 {
     let table = table_at(author, "rows");
     let lines = page_lines(alloc, table)?;
@@ -121,14 +121,14 @@ fn are_rows(
 
 // Whether a page of a service has an option.
 fn has_option(page: &Page, option: NationalOption) -> bool
-    ensures { IsTrue result → option_number option ≡ option_of (page_of page.now).control }
+    ensures { IsTrue result ↔ (option_number option ≡ option_of (page_of page.now).control) }
 {
     page.control().option() == option.number()
 }
 
 // Whether a page of a service is what an author wrote.
 fn says_page(alloc: Global, author: &Table, page: &Page) -> Result<bool, AllocError>
-    ensures { IfOk result (λ said. IsTrue said → rule.SaysPage (table_view author.now) (page_of page.now)) }
+    ensures { IfOk result (λ said. IsTrue said ↔ rule.SaysPage (table_view author.now) (page_of page.now)) }
 {
     let Some(option) = option_in(author) else {
         return Ok(false);
@@ -145,7 +145,7 @@ fn says_page(alloc: Global, author: &Table, page: &Page) -> Result<bool, AllocEr
 
 /// Whether each page of a service has what the author's page at its index has.
 pub fn says_texts(alloc: Global, author: &Table, service: &Service) -> Result<bool, AllocError>
-    ensures { IfOk result (λ said. IsTrue said → rule.SaysTexts (table_view author.now) service.now) }
+    ensures { IfOk result (λ said. IsTrue said ↔ rule.SaysTexts (table_view author.now) service.now) }
 {
     let pages = service.pages();
     for index in 0..pages.len() {
