@@ -8,7 +8,8 @@
 use Rattle.std.specs.Prelude.{◌≡◌, ◌⊎◌, ℕ, List, [], ◌∷◌, ◌++◌, codes, length, string_bytes, Ok, Err}
 use Rattle.std.specs.Fmt.{decimal}
 use Rattle.ttx_source.specs.declared.faults.SourceError.{SourceError}
-use Rattle.ttx_desk.specs.Decomposing.{Decomposes}
+use Rattle.ttx_desk.specs.Composing.{BeginsWith}
+use Rattle.ttx_desk.specs.Decomposing.{Decomposes, first_lines}
 use Rattle.ttx_desk.specs.declared.decomposition.Decomposed.{Decomposed}
 use Rattle.ttx_desk.specs.declared.decomposition.DecomposeFault.TheVariants as fault
 
@@ -18,10 +19,11 @@ decomposed_line count = codes "decomposed " ++ decimal count ++ codes " pages" +
 abbrev pub unsaid_line : List ℕ → List ℕ
 unsaid_line name = name ++ codes ": error: this cannot be written as an author's text; a key author stands only in authors' texts\n"
 
--- The author's text that means the service text. The line counts its pages.
-pub record IsDecomposedFile (bytes text line : List ℕ) : Type 0 where
+-- The author's text that means the service text. It begins with the comment that names its source, and the line counts its pages.
+pub record IsDecomposedFile (name bytes text line : List ℕ) : Type 0 where
   pub decomposed : Decomposed
   pub answer : Decomposes bytes (Ok decomposed)
+  pub begins : BeginsWith (first_lines name) (string_bytes decomposed.text)
   pub text_is : text ≡ string_bytes decomposed.text
   pub line_is : line ≡ decomposed_line (length decomposed.service.pages)
 
@@ -34,7 +36,7 @@ pub record IsUnsaidFile (name bytes text line : List ℕ) : Type 0 where
 -- status 0: the author's text and its line; status 1: no text, and the line about what is wrong
 abbrev pub IsToldBy : List ℕ → List ℕ → ℕ → List ℕ → List ℕ → Type 0
 IsToldBy name bytes status text line =
-    ((status ≡ 0) × IsDecomposedFile bytes text line) ⊎ ((status ≡ 1) × IsUnsaidFile name bytes text line)
+    ((status ≡ 0) × IsDecomposedFile name bytes text line) ⊎ ((status ≡ 1) × IsUnsaidFile name bytes text line)
 
 -- the service text is refused
 abbrev pub IsRefusedService : List ℕ → SourceError → Type 0

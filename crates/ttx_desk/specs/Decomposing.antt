@@ -1,11 +1,12 @@
 -- The author's text of a service text.
 --
+--   first_lines             the comment that names the source, and the key of an author's text
 --   Means                   an author's text has no mistake, and means the table that a text is
 --   IsAuthorOf              it means this table
 --   IsAuthorText            it means the table of a service text
 --   IsService               bytes are a service text
 --   Decomposes              what is returned for a service text
-use Rattle.std.specs.Prelude.{◌≡◌, ◌⊎◌, ℕ, List, [], string_bytes, ⊤, String, Some, Result, Ok, Err}
+use Rattle.std.specs.Prelude.{◌≡◌, ◌⊎◌, ℕ, List, [], ◌++◌, codes, string_bytes, ⊤, String, Some, Result, Ok, Err}
 use Rattle.toml.specs.Data.{Members}
 use Rattle.toml.specs.Parse.{parse_document}
 use Rattle.ttx_source.specs.Faults.{fault_of}
@@ -13,10 +14,13 @@ use Rattle.ttx_source.specs.KeyFaults.{out_of_memory}
 use Rattle.ttx_source.specs.Services.{ServiceFields, read_bytes}
 use Rattle.std.specs.declared.alloc.Global.{Global}
 use Rattle.ttx_desk.specs.Services.{service_table, mistakes}
-use Rattle.ttx_desk.specs.Composing.{author_in}
+use Rattle.ttx_desk.specs.Composing.{author_in, printed_name}
 use Rattle.ttx_desk.specs.declared.decomposition.Decomposed.{Decomposed}
 use Rattle.ttx_desk.specs.declared.decomposition.DecomposeFault.{DecomposeFault}
 use Rattle.ttx_desk.specs.declared.decomposition.DecomposeFault.TheVariants.{Service, Unsaid, NoMemory}
+
+unfoldable pub first_lines : List ℕ → List ℕ
+first_lines source = codes "# Decomposed from " ++ printed_name source ++ codes " by ttx decompose.\nauthor = 1\n"
 
 -- the author's text is TOML without mistakes, and means this table
 pub record IsAuthorOf (text : List ℕ) (table : Members) : Type 0 where

@@ -1,5 +1,9 @@
 //! The author's text of the table of a service.
 
+ghost use Rattle.std.specs.Prelude.{◌≡◌, ◌++◌, IfOk, string_bytes};
+ghost use Rattle.ttx_desk.specs.Composing.{BeginsWith};
+ghost use Rattle.ttx_desk.specs.Decomposing as rule;
+
 use crate::composition::printed_name;
 use crate::rows::row_key;
 use crate::service_text::push_service;
@@ -144,8 +148,11 @@ pub(crate) fn author_of(alloc: Global, service: &Table) -> Result<Table, AllocEr
     Ok(out)
 }
 
-/// The beginning of an author's text: a comment that names the service text, and the key that marks an author's text.
-pub(crate) fn first_lines(alloc: Global, source: &str) -> Result<String, AllocError> {
+// The first lines of an author's text: a comment that names the service text, and the key that marks an author's text.
+#[tactic(auto, unfolding(crate::specs::Decomposing::first_lines))]
+fn first_lines(alloc: Global, source: &str) -> Result<String, AllocError>
+    ensures { IfOk result (λ text. string_bytes text ≡ rule.first_lines source.now) }
+{
     let mut text = String::new(alloc);
     text.push_str("# Decomposed from ")?;
     text.push_str(printed_name(source))?;
@@ -153,13 +160,24 @@ pub(crate) fn first_lines(alloc: Global, source: &str) -> Result<String, AllocEr
     Ok(text)
 }
 
-/// The author's text of a table in the author's form.
-pub(crate) fn author_text(
+/// An author's text: its first lines, then a table as text.
+pub(crate) fn with_first_lines(
     alloc: Global,
-    author: &Table,
     source: &str,
-) -> Result<String, AllocError> {
+    table: &str,
+) -> Result<String, AllocError>
+    ensures { IfOk result (λ text. string_bytes text ≡ rule.first_lines source.now ++ table.now) }
+{
     let mut text = first_lines(alloc, source)?;
-    push_service(alloc, &mut text, author, &[])?;
+    text.push_str(table)?;
     Ok(text)
+}
+
+/// The author's text of a table in the author's form.
+pub(crate) fn author_text(alloc: Global, author: &Table, source: &str) -> Result<String, AllocError>
+    ensures { IfOk result (λ text. BeginsWith (rule.first_lines source.now) (string_bytes text)) }
+{
+    let mut table = String::new(alloc);
+    push_service(alloc, &mut table, author, &[])?;
+    with_first_lines(alloc, source, table.as_str())
 }

@@ -3,10 +3,10 @@
 ghost use Rattle.std.specs.Prelude.{◌≡◌, ◌∷◌, [], Some, Ok, IfOk, IfErr, IfSome, IsTrue, string_bytes};
 ghost use Rattle.toml.specs.View.{table_view};
 ghost use Rattle.ttx_desk.specs.Services.{service_table, mistakes};
-ghost use Rattle.ttx_desk.specs.Composing.{author_in};
+ghost use Rattle.ttx_desk.specs.Composing.{author_in, BeginsWith};
 ghost use Rattle.ttx_desk.specs.Decomposing as rule;
 
-use crate::author_text::{author_of, author_text, first_lines};
+use crate::author_text::{author_of, author_text, with_first_lines};
 use crate::composition::plain_text;
 use crate::depths::is_within;
 use crate::translation::service_of;
@@ -54,13 +54,13 @@ fn means(alloc: Global, author: &str, plain: &str) -> Result<bool, AllocError>
 }
 
 // The author's text of what is printed plainly: everything with further tables inside pages.
-fn bare_text(alloc: Global, author: &Table, source: &str) -> Result<String, AllocError> {
-    let Some(body) = plain_text(alloc, author) else {
-        return Err(AllocError);
-    };
-    let mut text = first_lines(alloc, source)?;
-    text.push_str(body.as_str())?;
-    Ok(text)
+fn bare_text(alloc: Global, author: &Table, source: &str) -> Result<String, AllocError>
+    ensures { IfOk result (λ text. BeginsWith (rule.first_lines source.now) (string_bytes text)) }
+{
+    match plain_text(alloc, author) {
+        Some(table) => with_first_lines(alloc, source, table.as_str()),
+        None => Err(AllocError),
+    }
 }
 
 // The same, if it means a table.
@@ -71,6 +71,7 @@ fn bare_meaning(
     plain: &str,
 ) -> Result<String, DecomposeFault>
     ensures text { IfOk result (λ text. rule.Means (string_bytes text) plain.now) }
+    ensures begins { IfOk result (λ text. BeginsWith (rule.first_lines source.now) (string_bytes text)) }
     ensures refused { IfErr result rule.IsUnsaid }
 {
     let Ok(text) = bare_text(alloc, author, source) else {
@@ -91,6 +92,7 @@ fn text_meaning(
     plain: &str,
 ) -> Result<String, DecomposeFault>
     ensures text { IfOk result (λ text. rule.Means (string_bytes text) plain.now) }
+    ensures begins { IfOk result (λ text. BeginsWith (rule.first_lines source.now) (string_bytes text)) }
     ensures refused { IfErr result rule.IsUnsaid }
 {
     let Ok(author) = author_of(alloc, table) else {
@@ -109,6 +111,7 @@ fn text_meaning(
 // The author's text of the table of a service.
 fn decompose_table(alloc: Global, table: &Table, source: &str) -> Result<String, DecomposeFault>
     ensures text { IfOk result (λ text. rule.IsAuthorOf (string_bytes text) (table_view table.now)) }
+    ensures begins { IfOk result (λ text. BeginsWith (rule.first_lines source.now) (string_bytes text)) }
     ensures refused { IfErr result rule.IsUnsaid }
 {
     if !is_within(table, 80) {
@@ -123,6 +126,7 @@ fn decompose_table(alloc: Global, table: &Table, source: &str) -> Result<String,
 // The author's text of a service text that is accepted.
 fn decompose_text(alloc: Global, service: &[u8], source: &str) -> Result<String, DecomposeFault>
     ensures text { IfOk result (λ text. rule.IsAuthorText (string_bytes text) service.now) }
+    ensures begins { IfOk result (λ text. BeginsWith (rule.first_lines source.now) (string_bytes text)) }
     ensures refused { IfErr result rule.IsUnsaid }
 {
     match read_document(alloc, service) {
@@ -132,14 +136,16 @@ fn decompose_text(alloc: Global, service: &[u8], source: &str) -> Result<String,
 }
 
 /// The author's text of a service text: characters as they are seen, control codes by names, a national option by its name. Its table means
-/// exactly the table of the service text, so composed again it gives the same service. `source` is the name of the service text. Before it
-/// is returned, the text is read again. Comments are not kept.
+/// exactly the table of the service text, so composed again it gives the same service. `source` is the name of the service text; the first
+/// line is a comment that names it, and the second the key that marks an author's text. Before it is returned, the text is read again.
+/// Comments are not kept.
 pub fn decompose_service(
     alloc: Global,
     service: &[u8],
     source: &str,
 ) -> Result<Decomposed, DecomposeFault>
-    ensures { rule.Decomposes service.now result }
+    ensures answer { rule.Decomposes service.now result }
+    ensures begins { IfOk result (λ d. BeginsWith (rule.first_lines source.now) (string_bytes d.text)) }
 {
     let read = match read_service(alloc, service) {
         Ok(read) => read,
@@ -156,7 +162,8 @@ pub fn decompose_service(
 
 /// The author's text alone.
 pub fn decompose(alloc: Global, service: &[u8], source: &str) -> Result<String, DecomposeFault>
-    ensures { rule.DecomposesText service.now result }
+    ensures answer { rule.DecomposesText service.now result }
+    ensures begins { IfOk result (λ text. BeginsWith (rule.first_lines source.now) (string_bytes text)) }
 {
     match decompose_service(alloc, service, source) {
         Ok(decomposed) => Ok(decomposed.text),
