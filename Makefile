@@ -13,7 +13,7 @@ VERSION = 1.0.0
 PACKED = ttx-$(VERSION)-x86_64-linux
 PREFIX = /usr/local
 
-# how many crates and mutants are proved at a time; each takes 1 to 4 GB, less than rt assumes when it is not told
+# how many crates and mutants are proved at a time; each takes 1 to 6 GB, less than rt assumes when it is not told
 JOBS = 4
 
 # rt with the checksum of each crate reckoned once, and not anew for each path of crates.txt; RT=rt checks the same, and takes longer
