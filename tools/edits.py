@@ -12,10 +12,9 @@ tried together again, and in the end alone, as are mutants of definitions, types
 
 Each result is written to tools/edits.tsv at once, one line for a mutant: the crate, the edit, the heading, the checksums of the mutant and
 of all that it is tried on, the verdict, the refused function or lemma, and how. What it is tried on are the sources of the crate, what
-another crate's check can read of the crates below (all but functions that it cannot call, the bodies of functions, and proofs that nothing
-cites), each without comments, and the logic. A later run tries only mutants that no line with these checksums says to be refused; --anew
-tries all. --joined leaves out those that have an edit file of their own, which the gate has tried by itself. --stale tries nothing, and
-lists the mutants without such a line.
+another crate's check can read of the crates below (all but private functions, the bodies of functions and their written proofs), each
+without comments, and the logic. A later run tries only mutants that no line with these checksums says to be refused; --anew tries all. --joined leaves out those that
+have an edit file of their own, which the gate has tried by itself. --stale tries nothing, and lists the mutants without such a line.
 
 The status is 1 if a mutant is not refused for want of a proof, if a heading does not name the functions that its mutant changes, if two
 mutants of one edit file change one function, or if a mutant that the record has is gone: --forget drops its line.
@@ -48,11 +47,10 @@ ITEM = re.compile(r"\s*(?:pub(?:\([a-z]+\))? )?(?:const |unsafe )?(?:fn|struct|e
 FUNCTION = re.compile(r"\s*(?:pub(?:\([a-z]+\))? )?(?:const |unsafe )?fn ")
 IMPL = re.compile(r"impl\s*(?:[\w:]+\s+for\s+)?(?:\w+::)*(\w+)")
 # a function whose body no other crate reads, and what may make a body known to others: the macros, traits and constants of its file
-FUNCTION_HEAD = re.compile(r"(\s*)(pub(?:\([a-z]+\))? )?fn (\w+)")
+FUNCTION_HEAD = re.compile(r"(\s*)(pub(?:\([a-z]+\))? )?fn ")
 OPEN_BODY = re.compile(r"\s*(?:#\[macro|macro_rules!|(?:pub(?:\([a-z]+\))? )?(?:unsafe )?trait |.*\bconst fn )")
-REEXPORT = re.compile(r"^\s*pub use ([^;]*);", re.M)
-# a lemma of another crate, in a proof and in a source
-CITED = re.compile(r"\bRattle\.(ttx_\w+)\.proofs\.([\w.+-]+)|\b(ttx_\w+)::proofs::([\w:]+)")
+# the written proof of a function, which is private to it
+PROOFS = {"Answers.antt", "Invariants.antt", "Proof.antt"}
 DEFINITION = re.compile(r"(?:pub )?(?:abbrev |unfoldable |record |data )*(?:pub )?(?!where\b|unfolding\b|use\b|mod\b|--)([^\s:{})]+)")
 
 # (a function that only calls one that is not proved is not refused itself)
@@ -117,23 +115,9 @@ def code_lines(path):
     return [line for line in path.read_text().split("\n") if not line.lstrip().startswith(COMMENTS[path.suffix])]
 
 
-@functools.cache
-def reexported(name):
-    """The words in a crate's `pub use`: what its private modules give to other crates is among them."""
-    texts = [file.read_text() for file in sorted(pathlib.Path("crates", name, "src").rglob("*.rt"))]
-    return {word for text in texts for it in REEXPORT.findall(text) for word in re.findall(r"\w+|\*", it)}
-
-
-def is_reachable(path, function):
-    """Whether another crate may call a public function that stands at the top level of a file: its module is public, or reexports it."""
-    _, name, _, top, *_ = path.with_suffix("").parts
-    private = re.search(rf"^mod {top};", pathlib.Path("crates", name, "src/lib.rt").read_text(), re.M) if top not in ("lib", "main") else None
-    return private is None or not reexported(name).isdisjoint({function, "*"})
-
-
-def statements_of(path, lines):
-    """The lines of a source without the bodies of its functions, and without the functions that no other crate can call, whose place a blank
-    line takes; nothing where only imports and attributes are left. rt fmt puts a body between lines of the function's own indent."""
+def statements_of(lines):
+    """The lines of a source without the bodies of its functions, and without its private functions, whose place a blank line takes. rt fmt
+    puts a body between lines of the function's own indent."""
     if any(OPEN_BODY.match(line) for line in lines):
         return lines
     kept, is_of_trait, head = [], False, None
@@ -141,9 +125,7 @@ def statements_of(path, lines):
         if line.startswith("impl"):
             is_of_trait = " for " in line
         if head is None and (found := FUNCTION_HEAD.match(line)):
-            head, is_in_body = found[1], False
-            is_method, is_pub = found[1] != "", found[2] == "pub "
-            is_public = is_pub or is_of_trait if is_method else is_pub and is_reachable(path, found[3])
+            head, is_in_body, is_public = found[1], False, found[2] == "pub " or (is_of_trait and found[1] != "")
         is_kept = head is None or (is_public and (not is_in_body or line == f"{head}}}"))
         if is_kept and (line or kept[-1:] != [""]):
             kept.append(line)
@@ -153,8 +135,7 @@ def statements_of(path, lines):
             head = None
         elif re.fullmatch(rf"{head}(?:[^\s}}].*)?\{{", line):
             is_in_body = True
-    is_empty = all(not line or line.startswith(("use ", "ghost use ", "#[")) for line in kept)
-    return [] if is_empty else kept
+    return kept
 
 
 @functools.cache
@@ -166,37 +147,15 @@ def sum_of_file(path):
 def sum_of_statements(path):
     """The checksum of what another crate's check can read of a file."""
     lines = code_lines(path)
-    return checksum("\n".join(statements_of(path, lines) if path.suffix == ".rt" else lines).encode())
-
-
-@functools.cache
-def cited_by(path):
-    """The files of lemmas that a file cites."""
-    found = set()
-    for it in CITED.finditer("\n".join(code_lines(path))):
-        crate, parts = it[1] or it[3], re.split(r"\.|::", (it[2] or it[4]).rstrip(".:"))
-        places = [pathlib.Path("crates", crate, "proofs", *parts[:most]).with_suffix(".antt") for most in range(len(parts), 0, -1)]
-        found.update([place for place in places if place.is_file()][:1])
-    return found
-
-
-def cited(paths):
-    """The files of lemmas that these files cite, also by way of other lemmas."""
-    found, left = set(), set(paths)
-    while left := {it for path in left for it in cited_by(path)} - found:
-        found |= left
-    return found
+    return checksum("\n".join(statements_of(lines) if path.suffix == ".rt" else lines).encode())
 
 
 def sum_of_sources(known, name, logic):
     """The checksum of all that a crate's mutants are tried on."""
     names = below(known, name)
-    mine, others = sources([name]), [it for it in sources(names) if it.parts[1] != name]
-    statements = [it for it in others if it.parts[2] != "proofs"]
-    lemmas = cited([*mine, *statements])
     told = [logic, *[f"{it}: {' '.join(known[it])}" for it in names]]
-    told += [f"{it} {sum_of_file(it)}" for it in mine]
-    told += [f"{it} {sum_of_statements(it)}" for it in others if it.parts[2] != "proofs" or it in lemmas]
+    told += [f"{it} {sum_of_file(it)}" for it in sources([name])]
+    told += [f"{it} {sum_of_statements(it)}" for it in sources(names) if it.parts[1] != name and it.name not in PROOFS]
     return checksum("\n".join(told).encode())
 
 
