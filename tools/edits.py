@@ -419,6 +419,13 @@ def verdict_of(body, status, told):
     return ("names gone", *gone[0]) if gone else ("refused elsewhere", "", first)
 
 
+def refused_functions(told):
+    """The functions that a check refuses: those for which the search finds no proof, and those that a written proof does not fit."""
+    lacking = {function for function, _ in LACKING.findall(told)}
+    misfits = {function_of(path, why) for path, why in WRITTEN.findall(told) if not NAME_GONE.search(why)}
+    return sorted(lacking | misfits.intersection(NOT_PROVED.findall(told)))
+
+
 def refused_within(body, status, told):
     """The result for one of several mutants that were tried together, if the check refuses a function that it changes."""
     if status == 0 or "logic=not-proved" not in told:

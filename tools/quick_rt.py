@@ -1,7 +1,7 @@
 #!/usr/bin/env python3
 """Runs rt, with less work done twice: quick_rt.py WORDS..
 
-Two things differ from the kit's rt:
+Three things differ from the kit's rt:
 
 - Before a check, and under `rt ci` after it again, rt reckons the checksum of each crate below anew for each path of crates.txt that leads
   down to it. For ttx_tool these are 88,000 paths, and a run of `rt ci` over this repository opens some 21 million files for them, which takes
@@ -10,9 +10,10 @@ Two things differ from the kit's rt:
   seed). Here each library keeps the modules that its proof checked, and not the statements alone; the seed begins with these, as it does
   under `rt must-fail` with what earlier checks kept. The proof is still from nothing, and each edit is still checked by the prover. At the
   end rt still checks that the crate as it stands is proved over the seed, and otherwise tries each edit from nothing.
+- The line of an edit that is refused lists the functions that its check refuses. refusals.py needs them.
 
-`make test RT=rt` runs the kit's rt as it is: it proves and tries the same, and takes longer. So does this script where the kit's rt has
-another form than it knows.
+`make test RT=rt` runs the kit's rt as it is: it proves and tries the same, takes longer, and lists no functions. So does this script where
+the kit's rt has another form than it knows.
 """
 import os
 import pathlib
@@ -21,13 +22,18 @@ import sys
 import tempfile
 import threading
 
+from edits import refused_functions
+
 LOADED = "rtlib = load()\n"
-# what differs under `rt ci`: libraries with all that was checked, and seeds that wait for the crate's proof and begin with its library
+# what differs under `rt ci`: libraries with all that was checked, seeds that wait for the crate's proof and begin with its library, and lines
+# of edits with the functions that are refused (results that the kit's rt kept lack these, so they are kept under other names)
 CHANGES = {
     "    Crate.cuts_libraries = True\n": "    Crate.cuts_libraries = False\n",
     "found[0] if crate in ready else [], waits, both,": "found[0] if crate in ready else [], both[:1], both,",
     "is_well(it, given, new), kept)\n": "is_well(it, given, new), kept, None if crate.is_program else LIBRARY)\n",
     "room = seeded(crate, ": "room = seeded_from(seeded, crate, ",
+    "must be{': ' + first[:160] if first else ''}": "must be{': ' + first[:160] if first else ''}{told_of(ran.stdout)}",
+    "repr((sum, os.path.basename(edit), ": "repr((sum, 'with functions', os.path.basename(edit), ",
 }
 LIBRARY = "the crate's library"
 KIT_RT = pathlib.Path(os.path.realpath(shutil.which("rt") or "rt"))
@@ -89,6 +95,11 @@ def seeded_from(seeded, crate, flags, start):
         return seeded(crate, flags, room)
 
 
+def told_of(check):
+    """What stands behind the line of an edit that is refused: the functions that its check refuses."""
+    return f"; functions refused: {' '.join(refused_functions(check))}"
+
+
 def run_rt(name, more=""):
     """Runs the kit's rt as a module of this name, with some lines more behind the one that loads its library `rtlib`. Returns the names that
     it defines; `None` if it has another form than this script knows."""
@@ -98,7 +109,8 @@ def run_rt(name, more=""):
         return None
     for old, new in changes.items():
         text = text.replace(old, new)
-    names = {"__name__": name, "__file__": str(KIT_RT), "reckon_once": reckon_once, "seeded_from": seeded_from, "LIBRARY": LIBRARY}
+    ours = {it.__name__: it for it in (reckon_once, seeded_from, told_of)}
+    names = {"__name__": name, "__file__": str(KIT_RT), "LIBRARY": LIBRARY, **ours}
     exec(compile(text, str(KIT_RT), "exec"), names)
     return names
 
