@@ -1,17 +1,27 @@
 #!/usr/bin/env python3
-"""Checks in the log of a whole run of the gate that each must-fail edit was refused for want of a proof: refusals.py LOG [CRATE..]
+"""Checks in the log of a whole run of the gate that each must-fail edit was refused for want of a proof: refusals.py [--files] LOG [CRATE..]
 
 The gate does not count an edit that it cannot apply, or one that only a limit of the prover stops. Here each file
 crates/CRATE/must-fail/*.edit (of these crates, or of all) must be in the log as tried and refused, neither only by a limit of the prover
-nor only because a written proof names what the edit removes. The mistakes of NAMED must have their files. The status is 1 if one is not so.
+nor only because a written proof names what the edit removes. The mistakes of NAMED must have their files.
+
+A file may hold many wrong bodies, and the gate wants it refused as a whole. Here each wrong body must be refused: the log lists the functions
+that the check of the file refuses, and one that the body changes must be among them. --files leaves that out, for the log of the kit's own rt,
+which lists none.
+
+The status is 1 if one is not so.
 """
+import argparse
 import pathlib
 import re
 import sys
 
+from edits import bodies_of, is_body, is_turned
+
 TOLD = re.compile(r"rt: must-fail (\w+)/(\S+?\.edit): (.*)")
 STRAY = re.compile(r"rt: (\S+\.edit|\S*must-fail/\S+): BAD EDIT: (.*)")
 REFUSED = "refused, as it must be"
+LIST = "; functions refused: "
 
 # the mistakes that each release must be shown to refuse, each in a file of its own, so that none is lost with its file
 NAMED = """
@@ -65,15 +75,30 @@ def fault_of(said):
     return "" if said.startswith(REFUSED) else "the gate says something else"
 
 
+def unrefused(crate, name, said):
+    """The headings of the wrong bodies of an edit of which the gate's line lists no function as refused."""
+    refused = said.partition(LIST)[2].split()
+    bodies = [body for body in bodies_of(crate) if body.edit == name and is_body(body)]
+    return [body.heading or "the wrong body" for body in bodies if not any(is_turned(body, it) for it in refused)]
+
+
+def arguments():
+    words = argparse.ArgumentParser(description="Checks in the log of the gate that each must-fail edit was refused for want of a proof.")
+    words.add_argument("--files", action="store_true", help="asks for each file, and not for each wrong body")
+    words.add_argument("log")
+    words.add_argument("crates", nargs="*", help="the edits of these crates alone")
+    return words.parse_args()
+
+
 def main():
-    log, *names = sys.argv[1:]
+    words = arguments()
     said, stray = {}, []
-    for line in open(log, errors="replace"):
+    for line in open(words.log, errors="replace"):
         if found := TOLD.match(line):
             said[found[1], found[2]] = found[3]
         elif found := STRAY.match(line):
             stray.append(f"{found[1]}: {found[2]}")
-    edits = [it for it in sorted(pathlib.Path("crates").glob("*/must-fail/*.edit")) if not names or it.parts[1] in names]
+    edits = [it for it in sorted(pathlib.Path("crates").glob("*/must-fail/*.edit")) if not words.crates or it.parts[1] in words.crates]
     lacking = [it for it in NAMED if not pathlib.Path("crates", it.replace("/", "/must-fail/") + ".edit").is_file()]
     faults = [f"FAILED {it}: there is no such edit file" for it in lacking]
     for edit in edits:
@@ -81,6 +106,8 @@ def main():
         fault = "the log doesn't name it" if told is None else fault_of(told)
         if fault:
             faults.append(f"FAILED {edit}: {fault}" + (f": {told}" if told else ""))
+        elif not words.files:
+            faults += [f"FAILED {edit}: {it}: no function that it changes is refused" for it in unrefused(edit.parts[1], edit.name, told)]
     faults += [f"FAILED {it}" for it in stray]
     print("\n".join([*faults, f"refusals: {len(edits)} must-fail edits, {len(faults)} failed"]))
     return 1 if faults or not edits else 0
