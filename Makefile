@@ -34,7 +34,7 @@ ttx:
 
 test:
 	RT_JOBS=$(JOBS) python3 tools/progress.py out/test.log $(RT) ci
-	python3 tools/refusals.py out/test.log
+	python3 tools/refusals.py $(if $(filter rt,$(RT)),--files) out/test.log
 	python3 tools/edits.py --jobs $(JOBS)
 	$(MAKE) --no-print-directory --jobs $$(nproc) --output-sync $(SCRIPTS)
 

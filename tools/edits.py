@@ -56,6 +56,7 @@ DEFINITION = re.compile(r"(?:pub )?(?:abbrev |unfoldable |record |data )*(?:pub 
 # (a function that only calls one that is not proved is not refused itself)
 LACKING = re.compile(r"^fn \w+::(\S+): no proof: expected answers in \S+; (?!it calls )(.*)$", re.M)
 NOT_PROVED = re.compile(r"^fn \w+::(\S+): not proved$", re.M)
+UNPROVED = re.compile(r"^fn \w+::(\S+): not proved(?:;.*)?$", re.M)
 WRITTEN = re.compile(r"^(?:\./)?proofs/(\S+)/(?:Answers|Invariants|Proof)\.antt:\d+:\d+: error: (.*)", re.M)
 LEMMA = re.compile(r"^(?:\./)?proofs/(?!\S*/(?:Answers|Invariants|Proof)\.antt)\S+\.antt:\d+:\d+: error: `([^`]+)`: (.*)", re.M)
 NAME_GONE = re.compile(r"has no field|is not in scope|has no `|was not admitted")
@@ -420,10 +421,10 @@ def verdict_of(body, status, told):
 
 
 def refused_functions(told):
-    """The functions that a check refuses: those for which the search finds no proof, and those that a written proof does not fit."""
-    lacking = {function for function, _ in LACKING.findall(told)}
-    misfits = {function_of(path, why) for path, why in WRITTEN.findall(told) if not NAME_GONE.search(why)}
-    return sorted(lacking | misfits.intersection(NOT_PROVED.findall(told)))
+    """The functions that a check refuses themselves, and not only since one that they call is not proved: those for which the search finds no
+    proof, and those whose written proof no longer fits."""
+    misfits = {function_of(path, why) for path, why in WRITTEN.findall(told)}
+    return sorted(misfits.intersection(UNPROVED.findall(told)).union(function for function, _ in LACKING.findall(told)))
 
 
 def refused_within(body, status, told):

@@ -33,7 +33,7 @@ CHANGES = {
     "is_well(it, given, new), kept)\n": "is_well(it, given, new), kept, None if crate.is_program else LIBRARY)\n",
     "room = seeded(crate, ": "room = seeded_from(seeded, crate, ",
     "must be{': ' + first[:160] if first else ''}": "must be{': ' + first[:160] if first else ''}{told_of(ran.stdout)}",
-    "repr((sum, os.path.basename(edit), ": "repr((sum, 'with functions', os.path.basename(edit), ",
+    "repr((sum, os.path.basename(edit), ": "repr((sum, 'with the functions refused', os.path.basename(edit), ",
 }
 LIBRARY = "the crate's library"
 KIT_RT = pathlib.Path(os.path.realpath(shutil.which("rt") or "rt"))
