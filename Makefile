@@ -19,6 +19,9 @@ JOBS = 4
 # rt with the checksum of each crate reckoned once, and not anew for each path of crates.txt; RT=rt checks the same, and takes longer
 RT = python3 tools/quick_rt.py
 
+# the mutants that the log of `rt ci` does not show to be refused, which are tried by themselves (the kit's rt does not list functions)
+ALONE = $(if $(filter rt,$(RT)),,--alone out/alone.tsv)
+
 # scripts that run the built program, the longest first
 SCRIPTS = $(addprefix tests/, refused_calls.py refute.py memory.sh cases.py json_lines.py shipped.sh large.py planned.py waits.py keyed.py spliced.py schedules.py sent.py aired.py monitored.py recognised.py \
 	spread.py pictured.py pages.py reported.py checked.py packed.sh extracted.py authors.py documents.py refused_texts.py characters.py)
@@ -34,8 +37,8 @@ ttx:
 
 test:
 	RT_JOBS=$(JOBS) python3 tools/progress.py out/test.log $(RT) ci
-	python3 tools/refusals.py $(if $(filter rt,$(RT)),--files) out/test.log
-	python3 tools/edits.py --jobs $(JOBS)
+	python3 tools/refusals.py $(ALONE) out/test.log
+	python3 tools/edits.py --jobs $(JOBS) $(ALONE)
 	$(MAKE) --no-print-directory --jobs $$(nproc) --output-sync $(SCRIPTS)
 
 $(filter %.py,$(SCRIPTS)):

@@ -1,5 +1,5 @@
 #!/usr/bin/env python3
-"""Tries each mutant of the must-fail edits by itself: edits.py [--joined] [--jobs N] [--crate NAME].. [--anew], or edits.py --stale
+"""Tries each mutant of the must-fail edits by itself: edits.py [--joined] [--jobs N] [--crate NAME].. [--anew] [--alone FILE], or edits.py --stale
 
 An edit of the gate may hold several mutants (deliberate mistakes), separated by blank lines, each under a heading: the functions or
 definitions that it changes, or the mistake. The gate wants such an edit refused as a whole. Here the prover has to refuse each mutant, in a
@@ -13,8 +13,9 @@ tried together again, and in the end alone, as are mutants of definitions, types
 Each result is written to tools/edits.tsv at once, one line for a mutant: the crate, the edit, the heading, the checksums of the mutant and
 of all that it is tried on, the verdict, the refused function or lemma, and how. What it is tried on are the sources of the crate, what
 another crate's check can read of the crates below (all but private functions, the bodies of functions and their written proofs), each
-without comments, and the logic. A later run tries only mutants that no line with these checksums says to be refused; --anew tries all. --joined leaves out those that
-have an edit file of their own, which the gate has tried by itself. --stale tries nothing, and lists the mutants without such a line.
+without comments, and the logic. A later run tries only mutants that no line with these checksums says to be refused; --anew tries all, and
+--alone also those that FILE names, as refusals.py writes it. --joined leaves out those that have an edit file of their own, which the gate has
+tried by itself. --stale tries nothing, and lists the mutants without such a line.
 
 The status is 1 if a mutant is not refused for want of a proof, if a heading does not name the functions that its mutant changes, if two
 mutants of one edit file change one function, or if a mutant that the record has is gone: --forget drops its line.
@@ -510,6 +511,7 @@ def arguments():
     words.add_argument("--crate", action="append", help="this crate alone; more of them may be named")
     words.add_argument("--anew", action="store_true", help="also what the record has")
     words.add_argument("--joined", action="store_true", help="only mutants that share an edit file")
+    words.add_argument("--alone", metavar="FILE", help="also those that this file of refusals.py names")
     words.add_argument("--stale", action="store_true", help="lists the bodies that the record doesn't have as they stand, and tries none")
     words.add_argument("--trust", action="store_true", help="leaves the answers in place that the search needed at the last trial")
     words.add_argument("--forget", action="store_true", help="drops the lines of mutants that are gone")
@@ -546,7 +548,8 @@ def main():
     planted = [body for name in words.crate or sorted(known) for body in bodies_of(name)]
     every = joined(planted) if words.joined else planted
     sums = {name: sum_of_sources(known, name, now) for name in {body.crate for body in every}}
-    stale = [body for body in every if words.anew or not record.has(body, sums[body.crate])]
+    asked = {tuple(line.split("\t")) for line in pathlib.Path(words.alone).read_text().splitlines()} if words.alone else set()
+    stale = [body for body in every if words.anew or body.key[:3] in asked or not record.has(body, sums[body.crate])]
     gone = [] if words.forget else record.gone(words.crate, planted)
     wrong = [line for body in every for line in misnamed(body)] + doubled(planted)
     wrong += [f"{'/'.join(key[:2])}: {key[2]}: the mutant is gone (--forget drops its line)" for key in gone]

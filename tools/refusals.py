@@ -1,15 +1,13 @@
 #!/usr/bin/env python3
-"""Checks in the log of a whole run of the gate that each must-fail edit was refused for want of a proof: refusals.py [--files] LOG [CRATE..]
+"""Checks in the log of a whole run of the gate that each must-fail edit was refused for want of a proof: refusals.py [--alone FILE] LOG [CRATE..]
 
 The gate does not count an edit that it cannot apply, or one that only a limit of the prover stops. Here each file
 crates/CRATE/must-fail/*.edit (of these crates, or of all) must be in the log as tried and refused, neither only by a limit of the prover
-nor only because a written proof names what the edit removes. The mistakes of NAMED must have their files.
+nor only because a written proof names what the edit removes. The mistakes of NAMED must have their files. The status is 1 if one is not so.
 
-A file may hold many wrong bodies, and the gate wants it refused as a whole. Here each wrong body must be refused: the log lists the functions
-that the check of the file refuses, and one that the body changes must be among them. --files leaves that out, for the log of the kit's own rt,
-which lists none.
-
-The status is 1 if one is not so.
+A file may hold many mutants of bodies, and the gate wants it refused as a whole. The log lists the functions that its check refuses. --alone
+writes a line to FILE for each mutant that changes none of these, as where a function waits for the proof of another one that is changed too:
+the crate, the edit and the heading. `edits.py --alone FILE` tries them by themselves. The log of the kit's own rt lists no functions.
 """
 import argparse
 import pathlib
@@ -75,16 +73,16 @@ def fault_of(said):
     return "" if said.startswith(REFUSED) else "the gate says something else"
 
 
-def unrefused(crate, name, said):
-    """The headings of the wrong bodies of an edit of which the gate's line lists no function as refused."""
+def unlisted(crate, name, said):
+    """The mutants of bodies in an edit of whose functions the gate's line lists none as refused."""
     refused = said.partition(LIST)[2].split()
     bodies = [body for body in bodies_of(crate) if body.edit == name and is_body(body)]
-    return [body.heading or "the wrong body" for body in bodies if not any(is_turned(body, it) for it in refused)]
+    return [body for body in bodies if not any(is_turned(body, it) for it in refused)]
 
 
 def arguments():
     words = argparse.ArgumentParser(description="Checks in the log of the gate that each must-fail edit was refused for want of a proof.")
-    words.add_argument("--files", action="store_true", help="asks for each file, and not for each wrong body")
+    words.add_argument("--alone", metavar="FILE", help="writes the mutants that the log does not show to be refused to FILE")
     words.add_argument("log")
     words.add_argument("crates", nargs="*", help="the edits of these crates alone")
     return words.parse_args()
@@ -101,15 +99,19 @@ def main():
     edits = [it for it in sorted(pathlib.Path("crates").glob("*/must-fail/*.edit")) if not words.crates or it.parts[1] in words.crates]
     lacking = [it for it in NAMED if not pathlib.Path("crates", it.replace("/", "/must-fail/") + ".edit").is_file()]
     faults = [f"FAILED {it}: there is no such edit file" for it in lacking]
+    alone = []
     for edit in edits:
         told = said.get((edit.parts[1], edit.name))
         fault = "the log doesn't name it" if told is None else fault_of(told)
         if fault:
             faults.append(f"FAILED {edit}: {fault}" + (f": {told}" if told else ""))
-        elif not words.files:
-            faults += [f"FAILED {edit}: {it}: no function that it changes is refused" for it in unrefused(edit.parts[1], edit.name, told)]
+        else:
+            alone += unlisted(edit.parts[1], edit.name, told)
     faults += [f"FAILED {it}" for it in stray]
     print("\n".join([*faults, f"refusals: {len(edits)} must-fail edits, {len(faults)} failed"]))
+    if words.alone:
+        pathlib.Path(words.alone).write_text("".join("\t".join(body.key[:3]) + "\n" for body in alone))
+        print(f"refusals: {len(alone)} mutants are left to be tried by themselves")
     return 1 if faults or not edits else 0
 
 
