@@ -16,7 +16,7 @@ PREFIX = /usr/local
 # how many crates and mutants are proved at a time; each takes 1 to 6 GB, less than rt assumes when it is not told
 JOBS = 4
 
-# rt with the checksum of each crate reckoned once, and not anew for each path of crates.txt; RT=rt checks the same, and takes longer
+# rt with less work done twice, and a list of the functions that each must-fail edit's check refuses; RT=rt checks the same, lists none, and takes longer
 RT = python3 tools/quick_rt.py
 
 # the mutants that the log of `rt ci` does not show to be refused, which are tried by themselves (the kit's rt does not list functions)
