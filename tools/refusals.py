@@ -7,7 +7,8 @@ nor only because a written proof names what the edit removes. The mistakes of NA
 
 A file may hold many mutants of bodies, and the gate wants it refused as a whole. The log lists the functions that its check refuses. --alone
 writes a line to FILE for each mutant that changes none of these, as where a function waits for the proof of another one that is changed too:
-the crate, the edit and the heading. `edits.py --alone FILE` tries them by themselves. The log of the kit's own rt lists no functions.
+the crate, the edit and the heading. `edits.py --alone FILE` tries them by themselves. The log of the kit's own rt
+lists no functions, so it leaves none.
 """
 import argparse
 import pathlib
@@ -99,19 +100,19 @@ def main():
     edits = [it for it in sorted(pathlib.Path("crates").glob("*/must-fail/*.edit")) if not words.crates or it.parts[1] in words.crates]
     lacking = [it for it in NAMED if not pathlib.Path("crates", it.replace("/", "/must-fail/") + ".edit").is_file()]
     faults = [f"FAILED {it}: there is no such edit file" for it in lacking]
-    alone = []
+    alone, has_lists = [], any(LIST in it for it in said.values())
     for edit in edits:
         told = said.get((edit.parts[1], edit.name))
         fault = "the log doesn't name it" if told is None else fault_of(told)
         if fault:
             faults.append(f"FAILED {edit}: {fault}" + (f": {told}" if told else ""))
-        else:
+        elif has_lists:
             alone += unlisted(edit.parts[1], edit.name, told)
     faults += [f"FAILED {it}" for it in stray]
     print("\n".join([*faults, f"refusals: {len(edits)} must-fail edits, {len(faults)} failed"]))
     if words.alone:
         pathlib.Path(words.alone).write_text("".join("\t".join(body.key[:3]) + "\n" for body in alone))
-        print(f"refusals: {len(alone)} mutants are left to be tried by themselves")
+        print(f"refusals: {len(alone)} mutants are left to be tried by themselves" + ("" if has_lists else ", as the log lists no functions"))
     return 1 if faults or not edits else 0
 
 
