@@ -16,11 +16,8 @@ PREFIX = /usr/local
 # how many crates and mutants are proved at a time; each takes 1 to 6 GB, less than rt assumes when it is not told
 JOBS = 4
 
-# rt with less work done twice, and a list of the functions that each must-fail edit's check refuses; RT=rt checks the same, lists none, and takes longer
+# rt with less work done twice, and a log of each mutant; with RT=rt the gate tries each mutant again after `rt ci`, and takes much longer
 RT = python3 tools/quick_rt.py
-
-# the mutants that the log of `rt ci` does not show to be refused, which are tried by themselves (the kit's rt does not list functions)
-ALONE = $(if $(filter rt,$(RT)),,--alone out/alone.tsv)
 
 # scripts that run the built program, the longest first
 SCRIPTS = $(addprefix tests/, refused_calls.py refute.py memory.sh cases.py json_lines.py shipped.sh large.py planned.py waits.py keyed.py spliced.py schedules.py sent.py aired.py monitored.py recognised.py \
@@ -37,8 +34,8 @@ ttx:
 
 test:
 	RT_JOBS=$(JOBS) python3 tools/progress.py out/test.log $(RT) ci
-	python3 tools/refusals.py $(ALONE) out/test.log
-	python3 tools/edits.py --jobs $(JOBS) $(ALONE)
+	python3 tools/refusals.py out/test.log
+	python3 tools/edits.py --jobs $(JOBS) --log out/test.log
 	$(MAKE) --no-print-directory --jobs $$(nproc) --output-sync $(SCRIPTS)
 
 $(filter %.py,$(SCRIPTS)):

@@ -1,7 +1,7 @@
 #!/usr/bin/env python3
 """Runs rt, with less work done twice: quick_rt.py WORDS..
 
-Three things differ from the kit's rt:
+Five things differ from the kit's rt:
 
 - Before a check, and under `rt ci` after it again, rt reckons the checksum of each crate below anew for each path of crates.txt that leads
   down to it. For ttx_tool these are 88,000 paths, and a run of `rt ci` over this repository opens some 21 million files for them, which takes
@@ -10,11 +10,17 @@ Three things differ from the kit's rt:
   seed). Here each library keeps the modules that its proof checked, and not the statements alone; the seed begins with these, as it does
   under `rt must-fail` with what earlier checks kept. The proof is still from nothing, and each edit is still checked by the prover. At the
   end rt still checks that the crate as it stands is proved over the seed, and otherwise tries each edit from nothing.
-- The line of an edit that is refused lists the functions that its check refuses. refusals.py needs them.
+- Each edit is tried without the written answers of the functions that the crate's mutants change, wherever the search proves the crate without
+  them: the seed is a proof of the crate without these answers. So a mutant is refused by the contract of the function that it changes, and not
+  because an answer that was written for the original body no longer fits.
+- Mutants of bodies are first tried by a check of the functions that they change alone, which reads no more of the crate than these rest on. It
+  says of a function what a check of the whole crate says. Where it does not refuse each of the edit's mutants, rt checks the whole crate.
+- Lines of their own tell which mutants of an edit its check shows to be refused (gate_log.py).
 
-`make test RT=rt` runs the kit's rt as it is: it proves and tries the same, takes longer, and lists no functions. So does this script where
-the kit's rt has another form than it knows.
+`make test RT=rt` runs the kit's rt as it is: it proves and tries the same, takes longer, leaves the
+answers in place, and tells of no mutant. So does this script where the kit's rt has another form than it knows.
 """
+import functools
 import os
 import pathlib
 import shutil
@@ -22,20 +28,26 @@ import sys
 import tempfile
 import threading
 
-from edits import refused_functions
+from gate_log import mutant_lines
+from mutants import LACKING, PROVED, answers_of, changed_among, mutants_of
+from record import Record
 
 LOADED = "rtlib = load()\n"
-# what differs under `rt ci`: libraries with all that was checked, seeds that wait for the crate's proof and begin with its library, and lines
-# of edits with the functions that are refused (results that the kit's rt kept lack these, so they are kept under other names)
+# what differs under `rt ci`: libraries with all that was checked, seeds that wait for the crate's proof and begin with its library, checks of
+# edits without written answers, and lines for mutants (the kit's rt keeps results of edits without these, so they are kept under other names)
 CHANGES = {
     "    Crate.cuts_libraries = True\n": "    Crate.cuts_libraries = False\n",
     "found[0] if crate in ready else [], waits, both,": "found[0] if crate in ready else [], both[:1], both,",
     "is_well(it, given, new), kept)\n": "is_well(it, given, new), kept, None if crate.is_program else LIBRARY)\n",
-    "room = seeded(crate, ": "room = seeded_from(seeded, crate, ",
-    "must be{': ' + first[:160] if first else ''}": "must be{': ' + first[:160] if first else ''}{told_of(ran.stdout)}",
-    "repr((sum, os.path.basename(edit), ": "repr((sum, 'with the functions refused', os.path.basename(edit), ",
+    "room = seeded(crate, ": "room = seeded_from(globals(), crate, ",
+    "must_fail(crate, edits[number], flags, over)": "tried_over(globals(), crate, edits[number], flags, over)",
+    "        for path, text in texts.items():\n": "        leave_out(crate, room)\n        for path, text in texts.items():\n",
+    "must be{': ' + first[:160] if first else ''}": "must be{': ' + first[:160] if first else ''}{told_of(crate, edit, ran.stdout)}",
+    "repr((sum, os.path.basename(edit), ": "repr((sum, answers_not_needed(edit.split('/')[-3]), os.path.basename(edit), ",
 }
 LIBRARY = "the crate's library"
+# what the checks of each crate's edits leave out, and the crate's functions
+LEFT_OUT, FUNCTIONS = {}, {}
 KIT_RT = pathlib.Path(os.path.realpath(shutil.which("rt") or "rt"))
 
 
@@ -83,21 +95,74 @@ def unpack(library, to):
             path.write_bytes(text)
 
 
-def seeded_from(seeded, crate, flags, start):
-    """A seed as rt makes it, which begins with what the folder `start` holds, if there is one, or with the crate's library."""
-    if start != LIBRARY:
-        return seeded(crate, flags, start)
-    with tempfile.TemporaryDirectory(prefix=f"rt-edit-{os.getpid()}-") as room:
-        try:
-            unpack(crate.rlib, room)
-        except (OSError, ValueError, StopIteration):
-            return seeded(crate, flags)
-        return seeded(crate, flags, room)
+@functools.cache
+def answers_not_needed(name):
+    """The written answers of the functions that the crate's mutants change, as paths by function, without those that the search needed when
+    the mutants were last tried."""
+    folder, mutants, record = pathlib.Path("crates", name), mutants_of(name), Record()
+    needed = answers_of(folder, [it for it in mutants if record.needs_answers(it)])
+    return {function: str(it.relative_to(folder)) for function, it in answers_of(folder, mutants).items() if function not in needed}
 
 
-def told_of(check):
-    """What stands behind the line of an edit that is refused: the functions that its check refuses."""
-    return f"; functions refused: {' '.join(refused_functions(check))}"
+def left_out(name):
+    """The written answers that the checks of a crate's edits leave out, as paths by function."""
+    return LEFT_OUT.setdefault(name, answers_not_needed(name))
+
+
+def leave_out(crate, room):
+    """Removes these answers from a copy of the crate."""
+    for it in left_out(crate.name).values():
+        os.remove(f"{room}/{it}")
+
+
+def put_back(name, check):
+    """Keeps the written answers of a crate that its check lacks. Returns whether it lacks any."""
+    former, lacking = left_out(name), {function for function, _ in LACKING.findall(check.stdout)}
+    if check.returncode == 0 or "logic=not-proved" not in check.stdout or not former:
+        return False
+    left = {function: it for function, it in former.items() if function not in lacking}
+    LEFT_OUT[name] = left if len(left) < len(former) else {}
+    return True
+
+
+def seeded_from(rt, crate, flags, start):
+    """A seed as rt makes it, of the crate without the answers that it does not need. It begins with what the folder `start` holds, or with the
+    crate's library."""
+    room = tempfile.mkdtemp(prefix=f"rt-edits-{os.getpid()}-")
+    rt["SEEDS"].append(room)
+    try:
+        if start == LIBRARY:
+            unpack(crate.rlib, f"{room}/seed")
+        else:
+            rt["linked"](start, f"{room}/seed")
+        while (check := rt["checked"](crate, {}, flags, f"{room}/seed")).returncode:
+            if not put_back(crate.name, check):
+                raise ValueError(crate.name)
+        FUNCTIONS[crate.name] = PROVED.findall(check.stdout)
+        return room
+    except (OSError, TypeError, ValueError, StopIteration):
+        shutil.rmtree(room, ignore_errors=True)
+        return rt["seeded"](crate, flags)
+
+
+def tried_over(rt, crate, edit, flags, kept):
+    """What a try of an edit over a seed comes to, as rt's `must_fail` says it. If the edit changes nothing but bodies, a check of these
+    functions alone comes first."""
+    name = os.path.basename(edit)
+    mutants = [it for it in mutants_of(crate.name) if it.edit == name]
+    changed = changed_among(mutants, FUNCTIONS.get(crate.name, []))
+    texts, why = rt["read_edit"](edit, crate.folder)
+    if changed and not why:
+        check = rt["checked"](crate, texts, [*flags, *(word for it in changed for word in ("--only", it))], kept)
+        lines = mutant_lines(crate.name, name, left_out(crate.name), check.stdout) if check.returncode == 1 else []
+        if len(lines) == len(mutants):
+            return rt["REFUSED"], "\n".join([f"must-fail {crate.name}/{name}: refused, as it must be: by a check of {' '.join(changed)}", *lines])
+    return rt["must_fail"](crate, edit, flags, kept)
+
+
+def told_of(crate, edit, check):
+    """What stands behind the line of an edit that is refused: a line for each mutant that its check shows to be refused."""
+    return "".join(f"\n{it}" for it in mutant_lines(crate.name, os.path.basename(edit), left_out(crate.name), check))
 
 
 def run_rt(name, more=""):
@@ -109,7 +174,7 @@ def run_rt(name, more=""):
         return None
     for old, new in changes.items():
         text = text.replace(old, new)
-    ours = {it.__name__: it for it in (reckon_once, seeded_from, told_of)}
+    ours = {it.__name__: it for it in (answers_not_needed, leave_out, reckon_once, seeded_from, told_of, tried_over)}
     names = {"__name__": name, "__file__": str(KIT_RT), "LIBRARY": LIBRARY, **ours}
     exec(compile(text, str(KIT_RT), "exec"), names)
     return names

@@ -1,26 +1,17 @@
 #!/usr/bin/env python3
-"""Checks in the log of a whole run of the gate that each must-fail edit was refused for want of a proof: refusals.py [--alone FILE] LOG [CRATE..]
+"""Checks in the log of a whole run of the gate that each must-fail edit was refused for want of a proof: refusals.py LOG [CRATE..]
 
 The gate does not count an edit that it cannot apply, or one that only a limit of the prover stops. Here each file
 crates/CRATE/must-fail/*.edit (of these crates, or of all) must be in the log as tried and refused, neither only by a limit of the prover
 nor only because a written proof names what the edit removes. The mistakes of NAMED must have their files. The status is 1 if one is not so.
-
-A file may hold many mutants of bodies, and the gate wants it refused as a whole. The log lists the functions that its check refuses. --alone
-writes a line to FILE for each mutant that changes none of these, as where a function waits for the proof of another one that is changed too:
-the crate, the edit and the heading. `edits.py --alone FILE` tries them by themselves. The log of the kit's own rt
-lists no functions, so it leaves none.
+What the log says of each mutant in a file is read by edits.py.
 """
-import argparse
 import pathlib
-import re
 import sys
 
-from edits import bodies_of, is_body, is_turned
+from gate_log import told_in
 
-TOLD = re.compile(r"rt: must-fail (\w+)/(\S+?\.edit): (.*)")
-STRAY = re.compile(r"rt: (\S+\.edit|\S*must-fail/\S+): BAD EDIT: (.*)")
 REFUSED = "refused, as it must be"
-LIST = "; functions refused: "
 
 # the mistakes that each release must be shown to refuse, each in a file of its own, so that none is lost with its file
 NAMED = """
@@ -74,45 +65,19 @@ def fault_of(said):
     return "" if said.startswith(REFUSED) else "the gate says something else"
 
 
-def unlisted(crate, name, said):
-    """The mutants of bodies in an edit of whose functions the gate's line lists none as refused."""
-    refused = said.partition(LIST)[2].split()
-    bodies = [body for body in bodies_of(crate) if body.edit == name and is_body(body)]
-    return [body for body in bodies if not any(is_turned(body, it) for it in refused)]
-
-
-def arguments():
-    words = argparse.ArgumentParser(description="Checks in the log of the gate that each must-fail edit was refused for want of a proof.")
-    words.add_argument("--alone", metavar="FILE", help="writes the mutants that the log does not show to be refused to FILE")
-    words.add_argument("log")
-    words.add_argument("crates", nargs="*", help="the edits of these crates alone")
-    return words.parse_args()
-
-
 def main():
-    words = arguments()
-    said, stray = {}, []
-    for line in open(words.log, errors="replace"):
-        if found := TOLD.match(line):
-            said[found[1], found[2]] = found[3]
-        elif found := STRAY.match(line):
-            stray.append(f"{found[1]}: {found[2]}")
-    edits = [it for it in sorted(pathlib.Path("crates").glob("*/must-fail/*.edit")) if not words.crates or it.parts[1] in words.crates]
+    log, *crates = sys.argv[1:]
+    told, stray = told_in(log)
+    edits = [it for it in sorted(pathlib.Path("crates").glob("*/must-fail/*.edit")) if not crates or it.parts[1] in crates]
     lacking = [it for it in NAMED if not pathlib.Path("crates", it.replace("/", "/must-fail/") + ".edit").is_file()]
     faults = [f"FAILED {it}: there is no such edit file" for it in lacking]
-    alone, has_lists = [], any(LIST in it for it in said.values())
     for edit in edits:
-        told = said.get((edit.parts[1], edit.name))
-        fault = "the log doesn't name it" if told is None else fault_of(told)
+        said = told.get((edit.parts[1], edit.name))
+        fault = "the log doesn't name it" if said is None else fault_of(said)
         if fault:
-            faults.append(f"FAILED {edit}: {fault}" + (f": {told}" if told else ""))
-        elif has_lists:
-            alone += unlisted(edit.parts[1], edit.name, told)
+            faults.append(f"FAILED {edit}: {fault}" + (f": {said}" if said else ""))
     faults += [f"FAILED {it}" for it in stray]
     print("\n".join([*faults, f"refusals: {len(edits)} must-fail edits, {len(faults)} failed"]))
-    if words.alone:
-        pathlib.Path(words.alone).write_text("".join("\t".join(body.key[:3]) + "\n" for body in alone))
-        print(f"refusals: {len(alone)} mutants are left to be tried by themselves" + ("" if has_lists else ", as the log lists no functions"))
     return 1 if faults or not edits else 0
 
 
