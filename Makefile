@@ -16,7 +16,7 @@ PREFIX = /usr/local
 # how many crates and mutants are proved at a time; each takes 1 to 6 GB, less than rt assumes when it is not told
 JOBS = 4
 
-# rt with less work done twice, and a log of each mutant; with RT=rt the gate tries each mutant again after `rt ci`, and takes much longer
+# rt with less work done twice and a line in the log for each mutant (its head says more); with RT=rt the gate runs the kit's rt as it is, and takes longer
 RT = python3 tools/quick_rt.py
 
 # scripts that run the built program, the longest first

@@ -17,8 +17,8 @@ Five things differ from the kit's rt:
   says of a function what a check of the whole crate says. Where it does not refuse each of the edit's mutants, rt checks the whole crate.
 - Lines of their own tell which mutants of an edit its check shows to be refused (gate_log.py).
 
-`make test RT=rt` runs the kit's rt as it is: it proves and tries the same, takes longer, leaves the
-answers in place, and tells of no mutant. So does this script where the kit's rt has another form than it knows.
+`make test RT=rt` runs the kit's rt as it is: it proves and tries the same, but leaves the answers in place, tells of no mutant and takes longer.
+So does this script where the kit's rt has another form than it knows. What is known of each mutant is then what tools/edits.tsv records.
 """
 import functools
 import os
