@@ -188,12 +188,12 @@ def try_mutants(stale, known, jobs, now, record):
 
 
 def take_shown(mutants, shown, sums, record):
-    """Puts what the log shows into the record, except where a mutant was tried with written answers that are only known to be needed from
-    the record. Returns the mutants that are still to be tried."""
+    """Puts what the log shows into the record, except where a mutant was tried with written answers in place. Returns the mutants that are
+    still to be tried."""
     left = []
     for mutant in mutants:
         told, has = shown.get(mutant.key), record.has(mutant, sums[mutant.crate])
-        if told and told.answers != "needed" and not has:
+        if told and told.answers != "in place" and not has:
             record.write(mutant, sums[mutant.crate], *told)
         elif not has or (shown and not told):
             left.append(mutant)

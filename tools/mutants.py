@@ -222,7 +222,7 @@ def answers_of(folder, mutants):
 def state_of_answers(folder, mutant, left_out):
     """Whether the written answers of the functions that a mutant changes were left out when it was tried."""
     mine = answers_of(folder, [mutant])
-    return ("left out" if all(it in left_out for it in mine) else "needed") if mine else "none"
+    return ("left out" if all(it in left_out for it in mine) else "in place") if mine else "none"
 
 
 def function_of(path, goal):

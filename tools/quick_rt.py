@@ -10,15 +10,15 @@ Five things differ from the kit's rt:
   seed). Here each library keeps the modules that its proof checked, and not the statements alone; the seed begins with these, as it does
   under `rt must-fail` with what earlier checks kept. The proof is still from nothing, and each edit is still checked by the prover. At the
   end rt still checks that the crate as it stands is proved over the seed, and otherwise tries each edit from nothing.
-- Each edit is tried without the written answers of the functions that the crate's mutants change, wherever the search proves the crate without
-  them: the seed is a proof of the crate without these answers. So a mutant is refused by the contract of the function that it changes, and not
+- The edits of a crate of which the record (record.py) lacks a mutant are tried without the written answers of the functions that they change,
+  wherever the search proves the crate without these: the seed is a proof of such a crate. So a mutant is refused by the contract, and not
   because an answer that was written for the original body no longer fits.
 - Mutants of bodies are first tried by a check of the functions that they change alone, which reads no more of the crate than these rest on. It
   says of a function what a check of the whole crate says. Where it does not refuse each of the edit's mutants, rt checks the whole crate.
 - Lines of their own tell which mutants of an edit its check shows to be refused (gate_log.py).
 
 `make test RT=rt` runs the kit's rt as it is: it proves and tries the same, but leaves the answers in place, tells of no mutant and takes longer.
-So does this script where the kit's rt has another form than it knows. What is known of each mutant is then what tools/edits.tsv records.
+So does this script where the kit's rt has another form than it knows. All that is known of each mutant is then in the record.
 """
 import functools
 import os
@@ -30,7 +30,7 @@ import threading
 
 from gate_log import mutant_lines
 from mutants import LACKING, PROVED, answers_of, changed_among, mutants_of
-from record import Record
+from record import Record, crates, logic, sum_of_sources
 
 LOADED = "rtlib = load()\n"
 # what differs under `rt ci`: libraries with all that was checked, seeds that wait for the crate's proof and begin with its library, checks of
@@ -97,9 +97,12 @@ def unpack(library, to):
 
 @functools.cache
 def answers_not_needed(name):
-    """The written answers of the functions that the crate's mutants change, as paths by function, without those that the search needed when
-    the mutants were last tried."""
+    """The written answers of the functions that the crate's mutants change, as paths by function, if the record lacks one of the mutants; without
+    those that the search needed when the mutants were last tried."""
     folder, mutants, record = pathlib.Path("crates", name), mutants_of(name), Record()
+    over = sum_of_sources(crates(), name, logic()) if mutants else ""
+    if all(record.has(it, over) for it in mutants):
+        return {}
     needed = answers_of(folder, [it for it in mutants if record.needs_answers(it)])
     return {function: str(it.relative_to(folder)) for function, it in answers_of(folder, mutants).items() if function not in needed}
 

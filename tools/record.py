@@ -3,7 +3,7 @@ it was tried on, the verdict, the refused function or lemma, whether the written
 was refused.
 
 What it was tried on are the sources of the crate and of all crates below, without comments, the crates that each of them uses, and the logic.
-Written answers are `needed` where the search does not prove the crate without them, else `left out`.
+Written answers are left out unless the search does not prove the crate without them; then they are in place.
 """
 import functools
 import pathlib
@@ -52,6 +52,7 @@ def sum_of_sources(known, name, logic):
     return checksum("\n".join(told).encode())
 
 
+@functools.cache
 def logic():
     """The checksum of the program logic that the kit proves with."""
     told = subprocess.run(["rt", "version"], stdout=subprocess.PIPE, text=True, check=True).stdout
@@ -73,7 +74,7 @@ class Record:
 
     def needs_answers(self, mutant):
         """Whether the search needed written answers of the functions that the mutant changes when it was last tried."""
-        return mutant.key in self.rows and self.rows[mutant.key][7] == "needed"
+        return mutant.key in self.rows and self.rows[mutant.key][7] == "in place"
 
     def write(self, mutant, sources_sum, verdict, answers):
         """Puts a verdict on a mutant into the record."""
