@@ -7,10 +7,10 @@ original body no longer fits. Mutants of bodies are tried together, one of each 
 that it changes. Where that check says nothing of some of them, these are tried together again, and in the end alone, as are mutants of
 definitions, types and constants.
 
-Each result is written to the record (record.py). A later run tries only mutants that no line with the checksums as they are says to be refused;
---anew tries all. --log also takes what the log of a run of the gate over the same sources shows (gate_log.py): it tries mutants that the log
-does not show to be refused, and of the others only those that were tried with written answers in place, if the record lacks them. --stale tries
-nothing, and lists the mutants that the record lacks.
+Each result is written to the record (record.py). A later run tries only mutants that the record lacks: of which no line with the checksums as
+they are says that they are refused. --anew tries all. --log takes results from the log of a run of the gate over the same sources first
+(gate_log.py), except for mutants that were tried there with written answers in place. --stale tries nothing, and lists the mutants that the
+record lacks.
 
 The status is 1 if a mutant is not refused for want of a proof, if a heading does not name the functions that its mutant changes, if two
 mutants of one edit file change one function, or if a mutant that the record has is gone: --forget drops its line.
@@ -195,7 +195,7 @@ def take_shown(mutants, shown, sums, record):
         told, has = shown.get(mutant.key), record.has(mutant, sums[mutant.crate])
         if told and told.answers != "in place" and not has:
             record.write(mutant, sums[mutant.crate], *told)
-        elif not has or (shown and not told):
+        elif not has:
             left.append(mutant)
     return left
 
