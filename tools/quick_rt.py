@@ -14,7 +14,8 @@ Five things differ from the kit's rt:
   wherever the search proves the crate without these: the seed is a proof of such a crate. So a mutant is refused by the contract, and not
   because an answer that was written for the original body no longer fits.
 - Mutants of bodies are first tried by a check of the functions that they change alone, which reads no more of the crate than these rest on. It
-  says of a function what a check of the whole crate says. Where it does not refuse each of the edit's mutants, rt checks the whole crate.
+  says of a function what a check of the whole crate says. If it does not refuse the edit, and each of its mutants unless the record has them,
+  rt checks the whole crate.
 - Lines of their own tell which mutants of an edit its check shows to be refused (gate_log.py).
 
 `make test RT=rt` runs the kit's rt as it is: it proves and tries the same, but leaves the answers in place, tells of no mutant and takes longer.
@@ -96,13 +97,20 @@ def unpack(library, to):
 
 
 @functools.cache
+def is_recorded(name):
+    """Whether the record has all mutants of a crate over the sources as they are."""
+    mutants, record = mutants_of(name), Record()
+    over = sum_of_sources(crates(), name, logic()) if mutants else ""
+    return all(record.has(it, over) for it in mutants)
+
+
+@functools.cache
 def answers_not_needed(name):
     """The written answers of the functions that the crate's mutants change, as paths by function, if the record lacks one of the mutants; without
     those that the search needed when the mutants were last tried."""
-    folder, mutants, record = pathlib.Path("crates", name), mutants_of(name), Record()
-    over = sum_of_sources(crates(), name, logic()) if mutants else ""
-    if all(record.has(it, over) for it in mutants):
+    if is_recorded(name):
         return {}
+    folder, mutants, record = pathlib.Path("crates", name), mutants_of(name), Record()
     needed = answers_of(folder, [it for it in mutants if record.needs_answers(it)])
     return {function: str(it.relative_to(folder)) for function, it in answers_of(folder, mutants).items() if function not in needed}
 
@@ -158,7 +166,7 @@ def tried_over(rt, crate, edit, flags, kept):
     if changed and not why:
         check = rt["checked"](crate, texts, [*flags, *(word for it in changed for word in ("--only", it))], kept)
         lines = mutant_lines(crate.name, name, left_out(crate.name), check.stdout) if check.returncode == 1 else []
-        if len(lines) == len(mutants):
+        if len(lines) == len(mutants) or (lines and is_recorded(crate.name)):
             return rt["REFUSED"], "\n".join([f"must-fail {crate.name}/{name}: refused, as it must be: by a check of {' '.join(changed)}", *lines])
     return rt["must_fail"](crate, edit, flags, kept)
 

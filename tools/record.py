@@ -13,7 +13,7 @@ import threading
 
 from mutants import ENOUGH, checksum
 
-RECORD = pathlib.Path("tools/edits.tsv")
+RECORD = pathlib.Path(__file__).resolve().parent / "edits.tsv"
 HEAD = ["crate", "edit", "heading", "body", "sources", "verdict", "function", "answers", "how"]
 PARTS = ("src", "specs", "proofs")
 COMMENTS = {".rt": "//", ".antt": "--"}
