@@ -244,9 +244,10 @@ def verdict_of(mutant, status, told):
     answers = [(function, why) for function, why in misfits if function in unproved and not NAME_GONE.search(why)]
     for word, found in (("refused", lacking), ("refused by an answer", answers)):
         mine = [it for it in found if is_changed(mutant, it[0])] or ([] if changed_functions(mutant) and answers else found)
-        if mine:
+        # (only another function is refused: that shows nothing of a mutant of a body)
+        if mine and (is_changed(mutant, mine[0][0]) or not is_of_body(mutant)):
             return Verdict(word, *mine[0])
-    if lacking:
+    if lacking and not is_of_body(mutant):
         return Verdict("refused", *lacking[0])
     # what a mutant of a definition refutes is a lemma about the definition
     lemmas = [it for it in LEMMA.findall(told) if not NAME_GONE.search(it[1])]
