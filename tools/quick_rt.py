@@ -15,7 +15,7 @@ Five things differ from the kit's rt:
   because an answer that was written for the original body no longer fits.
 - Mutants of bodies are first tried by a check of the functions that they change alone, which reads no more of the crate than these rest on. It
   says of a function what a check of the whole crate says. If it does not refuse the edit, and each of its mutants unless the record has them,
-  rt checks the whole crate.
+  rt checks the whole crate. Mutants of definitions are first tried by a check of the functions at which the record says that they are refused.
 - Lines of their own tell which mutants of an edit its check shows to be refused (gate_log.py).
 
 `make test RT=rt` runs the kit's rt as it is: it proves and tries the same, but leaves the answers in place, tells of no mutant and takes longer.
@@ -156,12 +156,21 @@ def seeded_from(rt, crate, flags, start):
         return rt["seeded"](crate, flags)
 
 
+def refused_before(name, mutants, functions):
+    """The functions, of all of a crate, at which its mutants were refused when they were last tried; none if one of them was not, or over other
+    sources."""
+    record = Record()
+    found = [record.refused_function(it) for it in mutants]
+    return found if is_recorded(name) and all(it in functions for it in found) else []
+
+
 def tried_over(rt, crate, edit, flags, kept):
-    """What a try of an edit over a seed comes to, as rt's `must_fail` says it. If the edit changes nothing but bodies, a check of these
-    functions alone comes first."""
+    """What a try of an edit over a seed comes to, as rt's `must_fail` says it. A check of the functions alone that are to be refused comes first,
+    where these are known."""
     name = os.path.basename(edit)
     mutants = [it for it in mutants_of(crate.name) if it.edit == name]
-    changed = changed_among(mutants, FUNCTIONS.get(crate.name, []))
+    functions = FUNCTIONS.get(crate.name, [])
+    changed = changed_among(mutants, functions) or refused_before(crate.name, mutants, functions)
     texts, why = rt["read_edit"](edit, crate.folder)
     if changed and not why:
         check = rt["checked"](crate, texts, [*flags, *(word for it in changed for word in ("--only", it))], kept)

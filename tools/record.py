@@ -76,6 +76,11 @@ class Record:
         """Whether the search needed written answers of the functions that the mutant changes when it was last tried."""
         return mutant.key in self.rows and self.rows[mutant.key][7] == "in place"
 
+    def refused_function(self, mutant):
+        """The function at which a mutant was refused when it was last tried; nothing if a lemma refused it."""
+        row = self.rows.get(mutant.key)
+        return row[6] if row and row[5] != "refused by a lemma" else ""
+
     def write(self, mutant, sources_sum, verdict, answers):
         """Puts a verdict on a mutant into the record."""
         tidy = re.sub(r"\s+", " ", verdict.how)[:160]

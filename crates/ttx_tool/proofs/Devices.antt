@@ -6,8 +6,8 @@ use Rattle.ttx_cycle.specs.Bounded.{most_bytes}
 use Rattle.ttx_files.proofs.Failures.{stopped, gone_on}
 use Rattle.ttx_files.specs.Devices.{Place, AtService, Device, AllRight, IsAmong, IsFirstFailure, IsRight}
 use Rattle.ttx_source.specs.Services.{ServiceFields, read_bytes}
-use Rattle.ttx_tool.specs.Devices.{failed_in, place_of, IsFaultOf, Fails}
-use Rattle.ttx_tool.specs.declared.faults.ToolFault.{ToolFault}
+use Rattle.ttx_faults.specs.Devices.{failed_in, place_of, IsFaultOf, Fails}
+use Rattle.ttx_faults.specs.declared.faults.ToolFault.{ToolFault}
 
 module _ (es : List Device) where
   among_first : (ds : List Device) (place : Option Place) → IsAmong (map (λ d. d.place) ds) place → IsAmong (map (λ d. d.place) (ds ++ es)) place

@@ -1,8 +1,6 @@
 mod BegunMoments
 mod Devices
 mod AskedReceivers
-mod ReadHeaders
-mod FieldLines
 mod Heard
 mod FoundNothing
 mod FreshUntilHeader

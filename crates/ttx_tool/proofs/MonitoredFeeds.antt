@@ -25,7 +25,7 @@ use Rattle.ttx_row_monitor.specs.declared.verdict.RowVerdict.TheVariants as row
 use Rattle.ttx_monitor.specs.declared.asked.Asked.{Asked}
 use Rattle.ttx_tool.specs.MonitorReports.{report_status, report_words, MonitorsLines, MeansReported}
 use Rattle.ttx_tool.specs.Monitor.{feed_status, row_status, feed_said, row_said, IsTelling, TellsFeed, IsFaultOfFeed, IsNotMonitored, MonitorsText, Monitors, IsWellReceived, MeansReceived}
-use Rattle.ttx_tool.specs.declared.faults.ToolFault.{ToolFault}
+use Rattle.ttx_faults.specs.declared.faults.ToolFault.{ToolFault}
 
 -- the three files and the feed, where their bytes are known
 pub if_all : {P Q : List ℕ → List ℕ → List ℕ → List ℕ → Type 0} (a b c d : Option (List ℕ)) →

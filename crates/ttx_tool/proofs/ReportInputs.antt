@@ -12,8 +12,8 @@ use Rattle.ttx_source.specs.Promises.{PromiseFields}
 use Rattle.ttx_source.specs.Services.{ServiceFields}
 use Rattle.ttx_tool.specs.Promised.{IsPromisedText, IsNoPromisedText}
 use Rattle.ttx_tool.specs.Report.{ReadsSealed, IsNoFiling, TellsReport, IsReporting}
-use Rattle.ttx_tool.specs.declared.faults.ToolFault.{ToolFault}
-use Rattle.ttx_tool.specs.declared.faults.ToolFault.TheVariants as fault
+use Rattle.ttx_faults.specs.declared.faults.ToolFault.{ToolFault}
+use Rattle.ttx_faults.specs.declared.faults.ToolFault.TheVariants as fault
 
 -- the marks of files whose bytes are known
 pub marked : (a b c service certificate : List ℕ) (slots : List (List ℕ)) → IsPacketFile a slots → service ≡ b → certificate ≡ c →

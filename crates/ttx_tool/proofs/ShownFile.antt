@@ -7,10 +7,10 @@ use Rattle.ttx_files.specs.declared.faults.FilesFault.{FilesFault}
 use Rattle.ttx_files.specs.declared.faults.FilesFault.TheVariants.{Cycle, Service, Certificate, Read, TooLong, Write, NoMemory}
 use Rattle.ttx_page.specs.Memories.{Memory}
 use Rattle.ttx_tool.specs.Receive.{Tuning}
-use Rattle.ttx_tool.specs.Reports.{Reports}
+use Rattle.ttx_faults.specs.Reports.{Reports}
 use Rattle.ttx_tool.specs.Show.{shown_text, shown_status, IsShownFile, HearsFile, ShowsFile}
-use Rattle.ttx_tool.specs.declared.faults.ToolFault.{ToolFault}
-use Rattle.ttx_tool.specs.declared.faults.ToolFault.TheVariants.{Files, Plan, Class, Same, Counter, Feed}
+use Rattle.ttx_faults.specs.declared.faults.ToolFault.{ToolFault}
+use Rattle.ttx_faults.specs.declared.faults.ToolFault.TheVariants.{Files, Plan, Class, Same, Counter, Feed}
 
 pub keeps_same : (known : Option (List ℕ)) → Keeps known known
 keeps_same None = tt

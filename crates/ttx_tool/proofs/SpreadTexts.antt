@@ -13,8 +13,8 @@ use Rattle.ttx_files.specs.declared.faults.FilesFault.TheVariants as files
 use Rattle.ttx_tool.specs.SpreadPlans.{IsStayingText, Plans, SaysFault, Spreads, missed_text}
 use Rattle.ttx_tool.specs.declared.commands.plan_spread.Spread.{Spread}
 use Rattle.ttx_tool.specs.declared.commands.plan_spread.Spread.TheVariants as spread
-use Rattle.ttx_tool.specs.declared.faults.ToolFault.{ToolFault}
-use Rattle.ttx_tool.specs.declared.faults.ToolFault.TheVariants.{Files}
+use Rattle.ttx_faults.specs.declared.faults.ToolFault.{ToolFault}
+use Rattle.ttx_faults.specs.declared.faults.ToolFault.TheVariants.{Files}
 
 pub plans_of : (v : Viewers) (bytes : List ℕ) (service : ServiceFields) (promises stays : List PromiseFields) →
     IsStayingText bytes service promises stays → (sent : ServiceFields) (answer : Result Cycle StayFault) →

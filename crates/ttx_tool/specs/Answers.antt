@@ -3,7 +3,6 @@
 --   verdict_status, late_status, numbers_status, required_status, splice_status, sent_status, late_splice_status
 --                          0 for a yes, 1 for a no
 --   pages_status            0, whatever is listed
---   of_feed                 the fault of a command whose feed fails
 --   IsAnswered              a command answers what a call does
 use Rattle.std.specs.Prelude.{◌≡◌, ℕ, ⊤, Result, Ok, Err}
 use Rattle.ttx_files.specs.declared.faults.FilesFault.{FilesFault}
@@ -21,11 +20,8 @@ use Rattle.ttx_proof.specs.declared.sent.SentVerdict.{SentVerdict}
 use Rattle.ttx_proof.specs.declared.sent.SentVerdict.TheVariants as sent
 use Rattle.ttx_proof.specs.declared.verdict.SpliceVerdict.{SpliceVerdict}
 use Rattle.ttx_proof.specs.declared.verdict.SpliceVerdict.TheVariants as splice
-use Rattle.ttx_tool.specs.declared.faults.ToolFault.{ToolFault}
-use Rattle.ttx_files.specs.declared.faults.FeedFault.{FeedFault}
-use Rattle.ttx_files.specs.declared.faults.FeedFault.TheVariants as feed
-use Rattle.ttx_files.specs.declared.faults.FilesFault.TheVariants.{NoMemory}
-use Rattle.ttx_tool.specs.declared.faults.ToolFault.TheVariants.{Files, Feed}
+use Rattle.ttx_faults.specs.declared.faults.ToolFault.{ToolFault}
+use Rattle.ttx_faults.specs.declared.faults.ToolFault.TheVariants.{Files}
 
 abbrev pub verdict_status : Verdict → ℕ
 verdict_status verdict.Yes = 0
@@ -64,10 +60,6 @@ late_splice_status (late_splice.Unfollowed page) = 1
 
 abbrev pub pages_status : ⊤ → ℕ
 pages_status _ = 0
-
-abbrev pub of_feed : FeedFault → ToolFault
-of_feed feed.Read = Feed
-of_feed feed.NoMemory = Files NoMemory
 
 -- The answer is that of a call on files: the status of its verdict, or its fault.
 abbrev pub IsAnswered : {V : Type 0} → (V → ℕ) → (Result V FilesFault → Type 0) → Result ℕ ToolFault → Type 0

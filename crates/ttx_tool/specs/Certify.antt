@@ -22,7 +22,7 @@ use Rattle.ttx_tool.specs.Claims.{IfKnown}
 use Rattle.ttx_tool.specs.declared.claims.Claim.{Claim}
 use Rattle.ttx_tool.specs.declared.commands.certify.Judgement.{Judgement}
 use Rattle.ttx_tool.specs.declared.commands.certify.Judgement.TheVariants.{AtOnce, All, Late, Numbers, Within}
-use Rattle.ttx_tool.specs.declared.faults.ToolFault.{ToolFault}
+use Rattle.ttx_faults.specs.declared.faults.ToolFault.{ToolFault}
 
 abbrev pub AnswersClaim : {V A B C : Type 0} → (V → ℕ) → (List (List ℕ) → ServiceFields → CertificateFields → V → List ℕ → Type 0) →
     (A → Option (List ℕ)) → (B → Option (List ℕ)) → (C → Option (List ℕ)) → Claim A B C → (old new : Option (List ℕ)) → Result ℕ ToolFault → Type 0

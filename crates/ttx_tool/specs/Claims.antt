@@ -8,7 +8,7 @@ use Rattle.std.specs.Prelude.{ℕ, List, [], ◌∷◌, Option, IfSome}
 use Rattle.ttx_cycle.specs.Counters.{inner_of}
 use Rattle.ttx_cycle.specs.declared.counted.Counted.{Counted}
 use Rattle.ttx_files.specs.Devices.{Device, AtCycle, AtService, AtCertificate}
-use Rattle.ttx_tool.specs.Devices.{read_from, written_to}
+use Rattle.ttx_faults.specs.Devices.{read_from, written_to}
 use Rattle.ttx_tool.specs.declared.claims.Claim.{Claim}
 
 abbrev pub IfKnown : {A B C : Type 0} → (A → Option (List ℕ)) → (B → Option (List ℕ)) → (C → Option (List ℕ)) → Claim A B C →

@@ -8,8 +8,8 @@ use Rattle.ttx_files.specs.declared.faults.FilesFault.TheVariants.{Write, NoMemo
 use Rattle.ttx_recognition.specs.Lines.{unlike_line}
 use Rattle.ttx_recognition.specs.Recognition.{judged, IsRecognised}
 use Rattle.ttx_recognition.specs.declared.form.Unlike.{Unlike}
-use Rattle.ttx_tool.specs.declared.faults.ToolFault.{ToolFault}
-use Rattle.ttx_tool.specs.declared.faults.ToolFault.TheVariants.{Files}
+use Rattle.ttx_faults.specs.declared.faults.ToolFault.{ToolFault}
+use Rattle.ttx_faults.specs.declared.faults.ToolFault.TheVariants.{Files}
 
 abbrev pub diagnosed_text : Option Unlike → List ℕ
 diagnosed_text None = []

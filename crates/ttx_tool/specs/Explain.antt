@@ -6,9 +6,9 @@ use Rattle.std.specs.Prelude.{◌≡◌, ◌⊎◌, ℕ, Bool, true, false, List
 use Rattle.ttx_files.specs.declared.faults.FilesFault.TheVariants.{NoMemory}
 use Rattle.ttx_reasons.specs.Entries.{IsExplained}
 use Rattle.ttx_reasons.specs.declared.entry.Entry.{Entry}
-use Rattle.ttx_tool.specs.Reports.{Reports}
-use Rattle.ttx_tool.specs.declared.faults.ToolFault.{ToolFault}
-use Rattle.ttx_tool.specs.declared.faults.ToolFault.TheVariants.{Files}
+use Rattle.ttx_faults.specs.Reports.{Reports}
+use Rattle.ttx_faults.specs.declared.faults.ToolFault.{ToolFault}
+use Rattle.ttx_faults.specs.declared.faults.ToolFault.TheVariants.{Files}
 
 -- with what the two writers hold before and after; the status is 0 or 2
 abbrev pub ExplainsTo : Bool → List ℕ → Option (List ℕ) → Option (List ℕ) → Option (List ℕ) → Option (List ℕ) → Result ℕ ToolFault → Type 0

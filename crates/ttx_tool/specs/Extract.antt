@@ -21,10 +21,10 @@ use Rattle.ttx_extract.specs.Extracts.{IsExtract}
 use Rattle.ttx_extract.specs.ServiceTexts.{service_text}
 use Rattle.ttx_extract.specs.declared.faults.ExtractFault.{ExtractFault}
 use Rattle.ttx_source.specs.Services.{ServiceFields}
-use Rattle.ttx_tool.specs.Devices.{is_tool_write, IsFaultOf}
-use Rattle.ttx_tool.specs.declared.faults.ExtractionFault.{ExtractionFault}
-use Rattle.ttx_tool.specs.declared.faults.ExtractionFault.TheVariants.{Tool, Refused}
-use Rattle.ttx_tool.specs.declared.faults.ToolFault.TheVariants.{Files}
+use Rattle.ttx_faults.specs.Devices.{is_tool_write, IsFaultOf}
+use Rattle.ttx_faults.specs.declared.faults.ExtractionFault.{ExtractionFault}
+use Rattle.ttx_faults.specs.declared.faults.ExtractionFault.TheVariants.{Tool, Refused}
+use Rattle.ttx_faults.specs.declared.faults.ToolFault.TheVariants.{Files}
 
 abbrev pub extracted_line : ℕ → List ℕ
 extracted_line count = codes "extracted " ++ decimal count ++ codes " pages" ++ 10 ∷ []

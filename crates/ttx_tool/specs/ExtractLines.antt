@@ -14,9 +14,9 @@ use Rattle.ttx_possible.specs.Values.{NoneHas, AreFirst}
 use Rattle.ttx_possible.specs.Lines.{values_line}
 use Rattle.ttx_possible.specs.declared.line_values.Values.{Values}
 use Rattle.ttx_tool.specs.Extract.{IsNoExtract}
-use Rattle.ttx_tool.specs.declared.faults.ExtractionFault.{ExtractionFault}
-use Rattle.ttx_tool.specs.declared.faults.ExtractionFault.TheVariants.{Tool}
-use Rattle.ttx_tool.specs.declared.faults.ToolFault.TheVariants.{Files}
+use Rattle.ttx_faults.specs.declared.faults.ExtractionFault.{ExtractionFault}
+use Rattle.ttx_faults.specs.declared.faults.ExtractionFault.TheVariants.{Tool}
+use Rattle.ttx_faults.specs.declared.faults.ToolFault.TheVariants.{Files}
 
 -- the values with which the pages have a deadline
 pub record IsNamedOf (slots : List (List ℕ)) (service : ServiceFields) (line : List ℕ) : Type 0 where

@@ -22,8 +22,8 @@ use Rattle.ttx_certify.specs.declared.verdict.Verdict.{Verdict}
 use Rattle.ttx_certify.specs.declared.verdict.Verdict.TheVariants.{Yes, No}
 use Rattle.ttx_page.specs.declared.class.Class.{Class}
 use Rattle.ttx_source.specs.Services.{ServiceFields, pages_of}
-use Rattle.ttx_tool.specs.declared.faults.ToolFault.{ToolFault}
-use Rattle.ttx_tool.specs.declared.faults.ToolFault.TheVariants.{Files}
+use Rattle.ttx_faults.specs.declared.faults.ToolFault.{ToolFault}
+use Rattle.ttx_faults.specs.declared.faults.ToolFault.TheVariants.{Files}
 use Rattle.ttx_certificate.specs.CertificateTexts.{certificate_text}
 use Rattle.ttx_certificate.specs.Entries.{CertificateFields, IsCertificateFields, certificate_at}
 use Rattle.ttx_witness.specs.Coverage.{IsCertificate}

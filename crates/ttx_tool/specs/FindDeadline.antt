@@ -21,8 +21,8 @@ use Rattle.ttx_certify.specs.declared.verdict.Verdict.TheVariants.{Yes, No}
 use Rattle.ttx_deadline.specs.Deadlines.{IsFoundWith}
 use Rattle.ttx_deadline.specs.declared.asked_deadlines.Asked.{Asked}
 use Rattle.ttx_tool.specs.Find.{WritesDeadline, TellsDeadline, IsNoFinding}
-use Rattle.ttx_tool.specs.declared.faults.ToolFault.{ToolFault}
-use Rattle.ttx_tool.specs.declared.faults.ToolFault.TheVariants.{Files}
+use Rattle.ttx_faults.specs.declared.faults.ToolFault.{ToolFault}
+use Rattle.ttx_faults.specs.declared.faults.ToolFault.TheVariants.{Files}
 
 -- nothing into the file, and the line of the no on so many pages
 abbrev pub TellsRefused : CertificateFields → ℕ → Reason → List ℕ → List ℕ → ℕ → Type 0

@@ -34,9 +34,9 @@ use Rattle.ttx_row_monitor.specs.declared.verdict.RowVerdict.TheVariants as row
 use Rattle.ttx_page.specs.Pages.{Page}
 use Rattle.ttx_source.specs.Services.{ServiceFields, pages_of}
 use Rattle.ttx_witness.specs.Coverage.{Accepts, limit}
-use Rattle.ttx_tool.specs.Answers.{of_feed}
-use Rattle.ttx_tool.specs.declared.faults.ToolFault.{ToolFault}
-use Rattle.ttx_tool.specs.declared.faults.ToolFault.TheVariants.{Files, Feed}
+use Rattle.ttx_faults.specs.Feeds.{of_feed}
+use Rattle.ttx_faults.specs.declared.faults.ToolFault.{ToolFault}
+use Rattle.ttx_faults.specs.declared.faults.ToolFault.TheVariants.{Files, Feed}
 
 abbrev pub feed_status : FeedVerdict → ℕ
 feed_status (Unlike unlike) = 1

@@ -20,8 +20,8 @@ use Rattle.ttx_plan.specs.declared.faults.PlanFault.{PlanFault}
 use Rattle.ttx_plan.specs.declared.faults.PlanFault.TheVariants as plan
 use Rattle.ttx_source.specs.Services.{ServiceFields}
 use Rattle.ttx_files.specs.declared.faults.FilesFault.TheVariants.{Write}
-use Rattle.ttx_tool.specs.declared.faults.ToolFault.{ToolFault}
-use Rattle.ttx_tool.specs.declared.faults.ToolFault.TheVariants.{Files, Plan}
+use Rattle.ttx_faults.specs.declared.faults.ToolFault.{ToolFault}
+use Rattle.ttx_faults.specs.declared.faults.ToolFault.TheVariants.{Files, Plan}
 
 -- why a text is that of no service
 abbrev pub IsNoText : List ℕ → ToolFault → Type 0

@@ -5,7 +5,7 @@ use Rattle.std.specs.Prelude.{ℕ, Bool, List}
 use Rattle.ttx_page.specs.declared.class.Class.{Class}
 use Rattle.ttx_plan.specs.declared.faults.PlanFault.TheVariants as plan
 use Rattle.ttx_tool.specs.Plan.{IsPlan, IsNoPlan}
-use Rattle.ttx_tool.specs.declared.faults.ToolFault.TheVariants.{Plan}
+use Rattle.ttx_faults.specs.declared.faults.ToolFault.TheVariants.{Plan}
 
 abbrev pub PlannedIsNotTooLong : Type 0
 PlannedIsNotTooLong =

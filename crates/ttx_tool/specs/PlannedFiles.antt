@@ -19,7 +19,7 @@ use Rattle.ttx_page.specs.declared.class.Class.{Class}
 use Rattle.ttx_tool.specs.Find.{IsFinding}
 use Rattle.ttx_tool.specs.FindDeadline.{IsAsked}
 use Rattle.ttx_tool.specs.Plan.{IsPlan}
-use Rattle.ttx_tool.specs.declared.faults.ToolFault.{ToolFault}
+use Rattle.ttx_faults.specs.declared.faults.ToolFault.{ToolFault}
 
 -- a packet file that `plan` writes for the text of a service and receivers of the class
 pub record IsPlanFile (a b : List ℕ) (late : Bool) (class : Class) : Type 0 where

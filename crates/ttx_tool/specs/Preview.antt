@@ -20,8 +20,8 @@ use Rattle.ttx_render.specs.View.{view_of}
 use Rattle.ttx_source.specs.Services.{ServiceFields, pages_of, read_bytes}
 use Rattle.ttx_source.specs.Values.{Fault}
 use Rattle.ttx_tool.specs.Show.{no_page_line}
-use Rattle.ttx_tool.specs.declared.faults.ToolFault.{ToolFault}
-use Rattle.ttx_tool.specs.declared.faults.ToolFault.TheVariants.{Files}
+use Rattle.ttx_faults.specs.declared.faults.ToolFault.{ToolFault}
+use Rattle.ttx_faults.specs.declared.faults.ToolFault.TheVariants.{Files}
 use Rattle.ttx_arguments.specs.declared.orders.Look.{Look}
 
 abbrev pub first_match : Selection → List Page → Option Page

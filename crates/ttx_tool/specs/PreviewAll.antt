@@ -19,8 +19,8 @@ use Rattle.ttx_render.specs.View.{view_of}
 use Rattle.ttx_source.specs.Services.{ServiceFields, pages_of, read_bytes}
 use Rattle.ttx_source.specs.Values.{Fault}
 use Rattle.ttx_tool.specs.Preview.{IsNoRead}
-use Rattle.ttx_tool.specs.declared.faults.ToolFault.{ToolFault}
-use Rattle.ttx_tool.specs.declared.faults.ToolFault.TheVariants.{Files}
+use Rattle.ttx_faults.specs.declared.faults.ToolFault.{ToolFault}
+use Rattle.ttx_faults.specs.declared.faults.ToolFault.TheVariants.{Files}
 
 abbrev pub page_part : Form → Bool → Page → List ℕ
 page_part form reveal p = id_text p.id ++ 10 ∷ picture_of form reveal (view_of (memory_of_page p))

@@ -24,8 +24,8 @@ use Rattle.ttx_tool.specs.Plan.{IsNoText}
 use Rattle.ttx_tool.specs.declared.commands.promised.Defined.{Defined}
 use Rattle.ttx_tool.specs.declared.commands.promised.Promised.{Promised}
 use Rattle.ttx_tool.specs.declared.commands.promised.PromisedInputs.{PromisedInputs}
-use Rattle.ttx_tool.specs.declared.faults.ToolFault.{ToolFault}
-use Rattle.ttx_tool.specs.declared.faults.ToolFault.TheVariants.{Files}
+use Rattle.ttx_faults.specs.declared.faults.ToolFault.{ToolFault}
+use Rattle.ttx_faults.specs.declared.faults.ToolFault.TheVariants.{Files}
 
 abbrev pub no_memory : SourceError
 no_memory = record { fault = source.NoMemory; page = 0 }

@@ -22,10 +22,10 @@ use Rattle.ttx_page.specs.declared.class.Class.TheVariants.{Any, Clearing}
 use Rattle.ttx_page.specs.declared.selection.Selection.{Selection}
 use Rattle.ttx_receiver.specs.Tuning.{stepped, tuned_at}
 use Rattle.ttx_render.specs.View.{view_of}
-use Rattle.ttx_tool.specs.ViewLines.{view_lines}
+use Rattle.ttx_lines.specs.ViewLines.{view_lines}
 use Rattle.ttx_files.specs.declared.faults.FilesFault.TheVariants.{Cycle, Write, NoMemory}
-use Rattle.ttx_tool.specs.declared.faults.ToolFault.{ToolFault}
-use Rattle.ttx_tool.specs.declared.faults.ToolFault.TheVariants.{Files}
+use Rattle.ttx_faults.specs.declared.faults.ToolFault.{ToolFault}
+use Rattle.ttx_faults.specs.declared.faults.ToolFault.TheVariants.{Files}
 
 pub record Tuning : Type 0 where
   pub class : Class

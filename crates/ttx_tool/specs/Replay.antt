@@ -24,11 +24,11 @@ use Rattle.ttx_render.specs.View.{view_of}
 use Rattle.ttx_source.specs.Services.{ServiceFields, pages_of}
 use Rattle.ttx_tool.specs.Find.{IsNoFinding}
 use Rattle.ttx_tool.specs.Refute.{counter_line}
-use Rattle.ttx_tool.specs.UnlikeViews.{unlike_lines}
-use Rattle.ttx_tool.specs.declared.faults.CounterFileFault.{CounterFileFault}
-use Rattle.ttx_tool.specs.declared.faults.CounterFileFault.TheVariants as counter
-use Rattle.ttx_tool.specs.declared.faults.ToolFault.{ToolFault}
-use Rattle.ttx_tool.specs.declared.faults.ToolFault.TheVariants.{Files, Counter}
+use Rattle.ttx_lines.specs.UnlikeViews.{unlike_lines}
+use Rattle.ttx_faults.specs.declared.faults.CounterFileFault.{CounterFileFault}
+use Rattle.ttx_faults.specs.declared.faults.CounterFileFault.TheVariants as counter
+use Rattle.ttx_faults.specs.declared.faults.ToolFault.{ToolFault}
+use Rattle.ttx_faults.specs.declared.faults.ToolFault.TheVariants.{Files, Counter}
 
 -- the line of the counter-run, and what its receiver shows differently from the page
 abbrev pub replay_text : Page → CounterRun → Memory → List ℕ

@@ -26,8 +26,8 @@ use Rattle.ttx_tool.specs.Promised.{IsPromisedText, IsNoPromisedInput}
 use Rattle.ttx_tool.specs.Version.{version_text}
 use Rattle.ttx_tool.specs.declared.commands.report.Filed.{Filed}
 use Rattle.ttx_tool.specs.declared.commands.report.Sealed.{Sealed}
-use Rattle.ttx_tool.specs.declared.faults.ToolFault.{ToolFault}
-use Rattle.ttx_tool.specs.declared.faults.ToolFault.TheVariants.{Files}
+use Rattle.ttx_faults.specs.declared.faults.ToolFault.{ToolFault}
+use Rattle.ttx_faults.specs.declared.faults.ToolFault.TheVariants.{Files}
 
 abbrev pub ReadsSealed : List ℕ → Result Sealed ToolFault → Type 0
 ReadsSealed bytes (Ok s) = IsCertificateText bytes (fields_of s.certificate) × (s.text.items ≡ bytes)

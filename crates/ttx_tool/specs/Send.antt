@@ -9,8 +9,8 @@ use Rattle.ttx_cycle.specs.Files.{file_of, IsPacketFile}
 use Rattle.ttx_cycle.specs.Reading.{Judged}
 use Rattle.ttx_send.specs.Airing.{Times, broadcast_by, sent_slots}
 use Rattle.ttx_files.specs.declared.faults.FilesFault.TheVariants.{Cycle, Write}
-use Rattle.ttx_tool.specs.declared.faults.ToolFault.{ToolFault}
-use Rattle.ttx_tool.specs.declared.faults.ToolFault.TheVariants.{Files}
+use Rattle.ttx_faults.specs.declared.faults.ToolFault.{ToolFault}
+use Rattle.ttx_faults.specs.declared.faults.ToolFault.TheVariants.{Files}
 
 -- the slots from field `phase` of the repeated cycle on, which is sent when the clock starts
 abbrev pub sent_file : List (List ℕ) → Times → Sending → List ℕ

@@ -21,8 +21,8 @@ use Rattle.ttx_render.specs.View.{view_of}
 use Rattle.ttx_tool.specs.Receive.{Tuning, Hears}
 use Rattle.ttx_files.specs.declared.faults.FilesFault.{FilesFault}
 use Rattle.ttx_files.specs.declared.faults.FilesFault.TheVariants.{Cycle, Write, NoMemory}
-use Rattle.ttx_tool.specs.declared.faults.ToolFault.{ToolFault}
-use Rattle.ttx_tool.specs.declared.faults.ToolFault.TheVariants.{Files}
+use Rattle.ttx_faults.specs.declared.faults.ToolFault.{ToolFault}
+use Rattle.ttx_faults.specs.declared.faults.ToolFault.TheVariants.{Files}
 use Rattle.ttx_arguments.specs.declared.orders.Look.{Look}
 
 -- one of the slots is a header that the selection matches

@@ -9,7 +9,7 @@ use Rattle.ttx_proof.specs.Splices.{Splice}
 use Rattle.ttx_proof.specs.SplicingFiles.{AnswersSix, IsSpliceAnswer, IsSentAnswer}
 use Rattle.ttx_tool.specs.Answers.{splice_status, sent_status, late_splice_status, IsAnswered}
 use Rattle.ttx_tool.specs.declared.claims.Claim.{Claim}
-use Rattle.ttx_tool.specs.declared.faults.ToolFault.{ToolFault}
+use Rattle.ttx_faults.specs.declared.faults.ToolFault.{ToolFault}
 
 abbrev pub AnswersChange : {V A B C D E F : Type 0} → (V → ℕ) → (Splice → V → List ℕ → Type 0) → (A → Option (List ℕ)) → (B → Option (List ℕ)) →
     (C → Option (List ℕ)) → (D → Option (List ℕ)) → (E → Option (List ℕ)) → (F → Option (List ℕ)) → Claim A C E → Claim B D F →

@@ -34,12 +34,12 @@ use Rattle.ttx_source.specs.Values.{Fault}
 use Rattle.ttx_source.specs.declared.faults.SourceError.{SourceError}
 use Rattle.ttx_tool.specs.Plan.{IsNoText, planned_line}
 use Rattle.ttx_tool.specs.Promised.{IsPromisedText, IsFaultBy}
-use Rattle.ttx_tool.specs.Reports.{Reports}
+use Rattle.ttx_faults.specs.Reports.{Reports}
 use Rattle.ttx_tool.specs.declared.commands.plan_spread.Spread.{Spread}
 use Rattle.ttx_tool.specs.declared.commands.plan_spread.Spread.TheVariants as spread
 use Rattle.ttx_tool.specs.declared.commands.stays.Staying.{Staying}
-use Rattle.ttx_tool.specs.declared.faults.ToolFault.{ToolFault}
-use Rattle.ttx_tool.specs.declared.faults.ToolFault.TheVariants.{Files, Plan}
+use Rattle.ttx_faults.specs.declared.faults.ToolFault.{ToolFault}
+use Rattle.ttx_faults.specs.declared.faults.ToolFault.TheVariants.{Files, Plan}
 
 pub record IsStayingText (bytes : List ℕ) (service : ServiceFields) (promises stays : List PromiseFields) : Type 0 where
   pub promised : IsPromisedText bytes service promises

@@ -4,8 +4,8 @@
 use Rattle.std.specs.Prelude.{ℕ, List, Result, Ok, Err}
 use Rattle.ttx_author_files.specs.AuthorTexts.{ReadsStanding}
 use Rattle.ttx_author_files.specs.declared.author_texts.Standing.{Standing}
-use Rattle.ttx_tool.specs.declared.faults.ToolFault.{ToolFault}
-use Rattle.ttx_tool.specs.declared.faults.ToolFault.TheVariants.{Files}
+use Rattle.ttx_faults.specs.declared.faults.ToolFault.{ToolFault}
+use Rattle.ttx_faults.specs.declared.faults.ToolFault.TheVariants.{Files}
 
 abbrev pub Stands : List ℕ → List ℕ → Result Standing ToolFault → Type 0
 Stands name bytes (Ok standing) = ReadsStanding name bytes (Ok standing)

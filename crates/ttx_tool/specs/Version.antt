@@ -5,8 +5,8 @@
 use Rattle.std.specs.Prelude.{ℕ, List, [], ◌∷◌, ◌++◌, codes, Option, Result, Ok, Err}
 use Rattle.std.specs.Io.KnownBytes.{Appends}
 use Rattle.ttx_files.specs.Answers.{WritesLine}
-use Rattle.ttx_tool.specs.declared.faults.ToolFault.{ToolFault}
-use Rattle.ttx_tool.specs.declared.faults.ToolFault.TheVariants.{Files}
+use Rattle.ttx_faults.specs.declared.faults.ToolFault.{ToolFault}
+use Rattle.ttx_faults.specs.declared.faults.ToolFault.TheVariants.{Files}
 
 -- three lines
 abbrev pub version_text : List ℕ

@@ -25,8 +25,8 @@ use Rattle.ttx_source.specs.Services.{ServiceFields, pages_of}
 use Rattle.ttx_subpages.specs.NumberWaits.{IsNumberWaits}
 use Rattle.ttx_tool.specs.Promised.{IsPromisedText, IsNoPromisedInput}
 use Rattle.ttx_tool.specs.declared.commands.wait.Question.{Question}
-use Rattle.ttx_tool.specs.declared.faults.ToolFault.{ToolFault}
-use Rattle.ttx_tool.specs.declared.faults.ToolFault.TheVariants.{Files}
+use Rattle.ttx_faults.specs.declared.faults.ToolFault.{ToolFault}
+use Rattle.ttx_faults.specs.declared.faults.ToolFault.TheVariants.{Files}
 use Rattle.ttx_wait.specs.Reports.{IsReportWith}
 use Rattle.ttx_wait.specs.declared.reports.Detail.{Detail}
 use Rattle.ttx_wait.specs.declared.reports.Detail.TheVariants as detail

@@ -34,7 +34,6 @@ pub mod replay;
 pub mod replay_air;
 pub mod replay_page;
 pub mod report;
-mod reports;
 pub mod send;
 pub mod service_text;
 pub mod show;
@@ -43,4 +42,4 @@ mod stays;
 pub mod version;
 pub mod wait;
 
-pub use reports::{report_air, report_extraction, report_fault, report_words};
+pub use ttx_faults::{report_air, report_extraction, report_fault, report_words};

@@ -3,19 +3,14 @@
 
 pub mod claims;
 pub mod commands;
-pub mod faults;
 pub mod laws;
-mod lines;
 mod receiver_steps;
-mod texts;
-mod unlike_views;
-mod views;
 
 pub use claims::Claim;
-pub use faults::{AirRefusal, CounterFileFault, ExtractionFault, ToolFault};
 pub use ttx_arguments::{Look, Order, ReceiverKind, Tuning, WordsFault, words};
 pub use ttx_broadcast::{
     BroadcastFault, LogCopy, Outputs, ServiceFile, begin_of, is_same_so_far, replay,
 };
 pub use ttx_failure::FailureForm;
+pub use ttx_faults::{AirRefusal, CounterFileFault, ExtractionFault, ToolFault};
 pub use ttx_files::TextFile;

@@ -5,7 +5,7 @@ ghost use Rattle.ttx_cycle.specs.Counters.{inner_of};
 ghost use Rattle.ttx_files.specs.Devices.{AtCycle, failed_at, IsFirstFailure, IsOf, IsRight};
 ghost use Rattle.ttx_page.specs.Laws.{sent_from};
 ghost use Rattle.ttx_page.specs.Streams.{repeated};
-ghost use Rattle.ttx_tool.specs.Devices.{read_from};
+ghost use Rattle.ttx_faults.specs.Devices.{read_from};
 ghost use Rattle.ttx_tool.specs.Receive.{tuned_as, Hears};
 ghost use Rattle.ttx_tool.specs.Show.{stays_fresh, HearsFile};
 

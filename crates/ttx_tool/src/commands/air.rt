@@ -6,16 +6,15 @@ ghost use Rattle.ttx_files.specs.Answers.{IsUntouched};
 ghost use Rattle.ttx_broadcast.specs.Broadcasts.{outs_of, wish_of, Broadcasts};
 ghost use Rattle.ttx_broadcast.specs.declared.request.Request as asked;
 ghost use Rattle.ttx_tool.specs.Air.{fields_in, name_in, air_text, air_status, Asks};
-ghost use Rattle.ttx_tool.specs.Devices.{is_tool_write, Fails, written_to};
-ghost use Rattle.ttx_tool.specs.Reports.{Reports};
+ghost use Rattle.ttx_faults.specs.Devices.{is_tool_write, Fails, written_to};
+ghost use Rattle.ttx_faults.specs.Reports.{Reports};
 
-use super::reports::write_text;
-use crate::faults::ToolFault;
 use std::alloc::{AllocError, Global};
 use std::io::Write;
 use ttx_arguments::{AirOrder, Clock as AskedClock};
 use ttx_broadcast::{BroadcastFault, ClockName, Demand, Outputs, Request, TextSource, broadcast};
 use ttx_cycle::{Counted, TextFault};
+use ttx_faults::{ToolFault, write_text};
 use ttx_files::FilesFault;
 use ttx_send::Clock;
 

@@ -7,13 +7,13 @@ ghost use Rattle.ttx_files.specs.Answers.{IsUntouched};
 ghost use Rattle.ttx_files.specs.Devices.{AtCycle};
 ghost use Rattle.ttx_pages.specs.Paging.{WritesTextOf};
 ghost use Rattle.ttx_tool.specs.Answers.{pages_status, IsAnswered};
-ghost use Rattle.ttx_tool.specs.Devices.{is_tool_write, Fails, read_from, written_to};
+ghost use Rattle.ttx_faults.specs.Devices.{is_tool_write, Fails, read_from, written_to};
 
-use crate::faults::ToolFault;
 use std::alloc::Global;
 use std::io::{Read, Write};
 use ttx_book::book;
 use ttx_cycle::Counted;
+use ttx_faults::ToolFault;
 
 /// Reads a packet file and writes all its pages to the other file as HTML: an index, and each page as it is shown by a receiver that
 /// takes no choice and has received all packets of the page twice. The status is 0.

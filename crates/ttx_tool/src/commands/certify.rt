@@ -7,15 +7,15 @@ ghost use Rattle.ttx_files.specs.Devices.{IsFirstFailure};
 ghost use Rattle.ttx_tool.specs.Answers.{verdict_status, late_status, numbers_status, required_status};
 ghost use Rattle.ttx_tool.specs.Certify.{AnswersClaim, CertifiesBy, CertifiesTwice};
 ghost use Rattle.ttx_tool.specs.Claims.{claim_devices, twice_devices};
-ghost use Rattle.ttx_tool.specs.Devices.{is_tool_write, failed_at};
+ghost use Rattle.ttx_faults.specs.Devices.{is_tool_write, failed_at};
 
 use crate::claims::Claim;
-use crate::faults::ToolFault;
 use std::alloc::Global;
 use std::io::{Read, Write};
 use ttx_certify::{All, AtOnce, Verdict, answer_passes, certify_passes};
 use ttx_cycle::Counted;
 use ttx_deadline::{Required, RequiredVerdict};
+use ttx_faults::ToolFault;
 use ttx_files::{Judge, answer_files};
 use ttx_late::{Late, LateVerdict};
 use ttx_records::objects;

@@ -7,14 +7,14 @@ ghost use Rattle.ttx_cycle.specs.Counters.{inner_of, faults_of};
 ghost use Rattle.ttx_files.specs.Answers.{IsUntouched};
 ghost use Rattle.ttx_files.specs.Devices.{AtService, input};
 ghost use Rattle.ttx_tool.specs.Answers.{IsAnswered};
-ghost use Rattle.ttx_tool.specs.Devices.{is_tool_write, Fails, written_to};
+ghost use Rattle.ttx_faults.specs.Devices.{is_tool_write, Fails, written_to};
 
-use crate::faults::ToolFault;
 use std::alloc::Global;
 use std::io::{Read, Write};
 pub use ttx_author_files::Style;
 use ttx_author_files::check_file;
 use ttx_cycle::Counted;
+use ttx_faults::ToolFault;
 
 /// Reads the text of a service or of an author, of at most 4,194,304 bytes, and writes the report on it in this style: the status is 2
 /// where the text is refused, 1 where there are warnings and they count, else 0.

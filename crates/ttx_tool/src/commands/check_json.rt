@@ -7,12 +7,12 @@ ghost use Rattle.ttx_files.specs.Answers.{IsUntouched};
 ghost use Rattle.ttx_files.specs.Devices.{AtService, input, output};
 ghost use Rattle.ttx_mistake_records.specs.Checking.{Checks};
 ghost use Rattle.ttx_tool.specs.Answers.{IsAnswered};
-ghost use Rattle.ttx_tool.specs.Devices.{is_tool_write, Fails};
+ghost use Rattle.ttx_faults.specs.Devices.{is_tool_write, Fails};
 
-use crate::faults::ToolFault;
 use std::alloc::Global;
 use std::io::{Read, Write};
 use ttx_cycle::Counted;
+use ttx_faults::ToolFault;
 use ttx_mistake_records::check_file_json;
 
 /// Reads the text of a service or of an author, of at most 4,194,304 bytes, and writes each error and each warning of its long report as a

@@ -7,13 +7,13 @@ ghost use Rattle.ttx_cycle.specs.Counters.{inner_of, faults_of};
 ghost use Rattle.ttx_files.specs.Answers.{IsUntouched};
 ghost use Rattle.ttx_files.specs.Devices.{AtService, input};
 ghost use Rattle.ttx_tool.specs.Answers.{IsAnswered};
-ghost use Rattle.ttx_tool.specs.Devices.{is_tool_write, Fails, written_to};
+ghost use Rattle.ttx_faults.specs.Devices.{is_tool_write, Fails, written_to};
 
-use crate::faults::ToolFault;
 use std::alloc::Global;
 use std::io::{Read, Write};
 use ttx_author_files::{Compose, translate_file};
 use ttx_cycle::Counted;
+use ttx_faults::ToolFault;
 
 /// Reads an author's text with this name, of at most 4,194,304 bytes, and writes the service text that it means; then the number of its
 /// pages to the other writer: the status is 0. If the text has mistakes or is not TOML, it writes no text, but the lines of the mistakes

@@ -7,13 +7,13 @@ ghost use Rattle.ttx_cycle.specs.Counters.{inner_of, faults_of};
 ghost use Rattle.ttx_files.specs.Answers.{IsUntouched};
 ghost use Rattle.ttx_files.specs.Devices.{AtService, input};
 ghost use Rattle.ttx_tool.specs.Answers.{IsAnswered};
-ghost use Rattle.ttx_tool.specs.Devices.{is_tool_write, Fails, written_to};
+ghost use Rattle.ttx_faults.specs.Devices.{is_tool_write, Fails, written_to};
 
-use crate::faults::ToolFault;
 use std::alloc::Global;
 use std::io::{Read, Write};
 use ttx_author_files::{Decompose, translate_file};
 use ttx_cycle::Counted;
+use ttx_faults::ToolFault;
 
 /// Reads the text of a service with this name, of at most 4,194,304 bytes, and writes the author's text of it; then the number of its
 /// pages to the other writer: the status is 0.

@@ -4,14 +4,13 @@ ghost use Rattle.std.specs.Prelude.{◌≡◌, ◌∷◌, [], ◌++◌, IfOk, st
 ghost use Rattle.ttx_cycle.specs.Counters.{inner_of};
 ghost use Rattle.ttx_files.specs.Answers.{IsUntouched};
 ghost use Rattle.ttx_recognition.specs.Lines.{unlike_line};
-ghost use Rattle.ttx_tool.specs.Devices.{is_tool_write, Fails, written_to};
+ghost use Rattle.ttx_faults.specs.Devices.{is_tool_write, Fails, written_to};
 ghost use Rattle.ttx_tool.specs.Diagnosis.{Diagnoses};
 
-use super::reports::write_text;
-use crate::faults::ToolFault;
 use std::alloc::{AllocError, Global};
 use std::io::Write;
 use ttx_cycle::Counted;
+use ttx_faults::{ToolFault, write_text};
 use ttx_recognition::{Unlike, push_unlike, recognise};
 
 // The line.

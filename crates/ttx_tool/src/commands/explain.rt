@@ -2,14 +2,13 @@
 
 ghost use Rattle.std.specs.Prelude.{◌<◌, ◌∷◌, [], length};
 ghost use Rattle.ttx_cycle.specs.Counters.{inner_of};
-ghost use Rattle.ttx_tool.specs.Devices.{Fails, written_to};
+ghost use Rattle.ttx_faults.specs.Devices.{Fails, written_to};
 ghost use Rattle.ttx_tool.specs.Explain.{Explains};
 
-use super::reports::write_text;
-use crate::faults::ToolFault;
 use std::alloc::Global;
 use std::io::Write;
 use ttx_cycle::Counted;
+use ttx_faults::{ToolFault, write_text};
 use ttx_reasons::{Entry, explain};
 
 /// Writes what a reason of the table means and what to do, by its number or its name: the status is 0. For any other word it writes the

@@ -7,13 +7,13 @@ ghost use Rattle.ttx_extract.specs.Extracts.{AnswersFault};
 ghost use Rattle.ttx_extract.specs.declared.faults.ExtractFault.{ExtractFault as TheFault};
 ghost use Rattle.ttx_files.specs.Answers.{IsUntouched};
 ghost use Rattle.ttx_files.specs.Devices.{AtCycle, IsRight};
-ghost use Rattle.ttx_tool.specs.Devices.{read_from, written_to};
+ghost use Rattle.ttx_faults.specs.Devices.{read_from, written_to};
 ghost use Rattle.ttx_tool.specs.Extract.{extracted_line, IsExtracted, IsExtractFault, ExtractsText, ExtractsFile, is_extraction_write, FailsExtract};
 
-use crate::faults::{ExtractionFault, ToolFault};
 use std::alloc::{AllocError, Global};
 use std::io::{Read, Write};
 use ttx_cycle::{Counted, Cycle};
+use ttx_faults::{ExtractionFault, ToolFault};
 use ttx_files::{Filed, FilesFault, read_packets, write_both};
 
 // The line that says how many pages there are.

@@ -10,11 +10,11 @@ ghost use Rattle.ttx_possible.specs.Lines.{values_line};
 ghost use Rattle.ttx_tool.specs.Extract.{IsExtractFault, is_extraction_write, FailsExtract};
 ghost use Rattle.ttx_tool.specs.ExtractLines.{IsNamedOf, IsNamed, NamesText, NamesLines};
 
-use crate::faults::{ExtractionFault, ToolFault};
 use std::alloc::{AllocError, Global};
 use std::io::{Read, Write};
 use ttx_cycle::{Counted, Cycle};
 use ttx_extract::Extracted;
+use ttx_faults::{ExtractionFault, ToolFault};
 use ttx_files::{FilesFault, read_packets, write_line};
 use ttx_possible::{Values, first_values, push_values};
 

@@ -7,9 +7,9 @@ ghost use Rattle.ttx_partial.specs.Lines.{partial_lines};
 ghost use Rattle.ttx_tool.specs.ExtractPartly.{IsPartlyTold, IsRefusedPartly};
 
 use super::extract::Extraction;
-use crate::faults::{ExtractionFault, ToolFault};
 use std::alloc::{AllocError, Global};
 use ttx_cycle::Cycle;
+use ttx_faults::{ExtractionFault, ToolFault};
 use ttx_files::{Filed, FilesFault};
 use ttx_partial::{LeftOut, extract_partly, others, push_partial};
 

@@ -6,15 +6,15 @@ ghost use Rattle.ttx_cycle.specs.Cycles.{slots_of};
 ghost use Rattle.ttx_certificate.specs.Certificates.{fields_of};
 ghost use Rattle.ttx_files.specs.Answers.{IsUntouched};
 ghost use Rattle.ttx_files.specs.Devices.{AtCycle, AtService};
-ghost use Rattle.ttx_tool.specs.Devices.{is_tool_write, Fails, Reads, read_from, written_to};
+ghost use Rattle.ttx_faults.specs.Devices.{is_tool_write, Fails, Reads, read_from, written_to};
 ghost use Rattle.ttx_tool.specs.Find.{found_line, WritesDeadline, TellsVerdict, IsFoundAndTold, FindsText, FindsFiles};
 ghost use Rattle.ttx_tool.specs.PlannedFiles.{FindsDeadline, MakesCertified};
 
-use crate::faults::ToolFault;
 use std::alloc::{AllocError, Global};
 use std::io::{Read, Write};
 use ttx_certify::{certify_service, find_service, verdict_line};
 use ttx_cycle::{Counted, Cycle};
+use ttx_faults::ToolFault;
 use ttx_files::{Filed, FilesFault, read_served, write_both};
 use ttx_page::Class;
 use ttx_source::Service;

@@ -4,15 +4,15 @@ ghost use Rattle.std.specs.Prelude.{◌∷◌, [], IfSome};
 ghost use Rattle.ttx_cycle.specs.Counters.{inner_of};
 ghost use Rattle.ttx_files.specs.Answers.{IsUntouched};
 ghost use Rattle.ttx_files.specs.Devices.{AtCycle};
-ghost use Rattle.ttx_tool.specs.Devices.{is_tool_write, Fails, read_from, written_to};
+ghost use Rattle.ttx_faults.specs.Devices.{is_tool_write, Fails, read_from, written_to};
 ghost use Rattle.ttx_tool.specs.Inspect.{Inspects};
 
-use crate::faults::ToolFault;
-use crate::lines::lines;
 use std::alloc::Global;
 use std::io::{Read, Write};
 use ttx_cycle::Counted;
+use ttx_faults::ToolFault;
 use ttx_files::{read_packets, write_line};
+use ttx_lines::slot_lines;
 
 /// Reads a packet file and writes a line for each of its slots.
 ///
@@ -29,6 +29,6 @@ pub fn run<R: Read, W: Write>(
     ensures untouched { IsUntouched is_tool_write result writer.old writer.new }
 {
     let cycle = read_packets(alloc, reader)?;
-    let text = lines(alloc, cycle.slots())?;
+    let text = slot_lines(alloc, cycle.slots())?;
     Ok(write_line(writer, text.as_bytes())?)
 }

@@ -8,14 +8,14 @@ ghost use Rattle.ttx_monitor.specs.FeedReports.{ReportsFeed};
 ghost use Rattle.ttx_monitor.specs.Followed.{CountsFollowed, CountsWrites};
 ghost use Rattle.ttx_source.specs.Services.{pages_of};
 ghost use Rattle.ttx_certificate.specs.Certificates.{certificate_of};
-ghost use Rattle.ttx_tool.specs.Devices.{Fails, read_from, written_to};
+ghost use Rattle.ttx_faults.specs.Devices.{Fails, read_from, written_to};
 ghost use Rattle.ttx_tool.specs.MonitorReports.{report_status, report_words, IsReportedAs, MonitorsLines, MeansReported};
 
 use super::certify::Status;
-use crate::faults::ToolFault;
 use std::alloc::Global;
 use std::io::{Read, Write};
 use ttx_cycle::Counted;
+use ttx_faults::ToolFault;
 use ttx_feed_records::report_feed_json;
 use ttx_files::{FeedFault, FilesFault, Inputs, read_inputs};
 use ttx_monitor::{Asked, FeedVerdict, FollowFault, report_feed};

@@ -5,14 +5,13 @@ ghost use Rattle.ttx_cycle.specs.Counters.{inner_of, faults_of};
 ghost use Rattle.ttx_files.specs.Answers.{IsUntouched};
 ghost use Rattle.ttx_files.specs.Devices.{output};
 ghost use Rattle.ttx_kinds.specs.Lines.{told_line};
-ghost use Rattle.ttx_tool.specs.Devices.{is_tool_write, Fails};
-ghost use Rattle.ttx_tool.specs.Reports.{Reports};
+ghost use Rattle.ttx_faults.specs.Devices.{is_tool_write, Fails};
+ghost use Rattle.ttx_faults.specs.Reports.{Reports};
 
-use super::reports::write_text;
-use crate::faults::ToolFault;
 use std::alloc::{AllocError, Global};
 use std::io::Write;
 use ttx_cycle::Counted;
+use ttx_faults::{ToolFault, write_text};
 use ttx_kinds::{Place, push_other};
 
 // The line, or no text.

@@ -8,12 +8,12 @@ ghost use Rattle.ttx_pages.specs.Listing.{pages_text};
 ghost use Rattle.ttx_pages.specs.Paging.{WritesTextOf};
 ghost use Rattle.ttx_pages.specs.Records.{pages_records};
 ghost use Rattle.ttx_tool.specs.Answers.{pages_status, IsAnswered};
-ghost use Rattle.ttx_tool.specs.Devices.{is_tool_write, Fails, read_from, written_to};
+ghost use Rattle.ttx_faults.specs.Devices.{is_tool_write, Fails, read_from, written_to};
 
-use crate::faults::ToolFault;
 use std::alloc::Global;
 use std::io::{Read, Write};
 use ttx_cycle::Counted;
+use ttx_faults::ToolFault;
 use ttx_pages::{pages, pages_json};
 
 /// Reads a packet file and writes a line for each page that has a header in it, by rising page numbers, and a line for what belongs to

@@ -6,16 +6,15 @@ ghost use Rattle.ttx_files.specs.Answers.{IsUntouched};
 ghost use Rattle.ttx_files.specs.Devices.{AtService, input};
 ghost use Rattle.ttx_page.specs.Views.{page_of};
 ghost use Rattle.ttx_source.specs.Services.{read_bytes};
-ghost use Rattle.ttx_tool.specs.Devices.{is_tool_write, Fails, written_to};
+ghost use Rattle.ttx_faults.specs.Devices.{is_tool_write, Fails, written_to};
 ghost use Rattle.ttx_tool.specs.PreviewAll.{page_part, pages_part, ShowsPages, PreviewsText, Previews};
 
-use super::reports::write_text;
-use crate::faults::ToolFault;
 use std::alloc::{AllocError, Global};
 use std::io::{Read, Write};
 use ttx_check::{Reading, reading_of};
 use ttx_cycle::Counted;
 use ttx_digits::push_id;
+use ttx_faults::{ToolFault, write_text};
 use ttx_files::{FilesFault, Told, read_service_text};
 use ttx_page::{Page, PageMemory};
 use ttx_picture::{Form, push_picture};

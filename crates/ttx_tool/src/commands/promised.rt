@@ -6,14 +6,14 @@ ghost use Rattle.ttx_cycle.specs.Counters.{inner_of};
 ghost use Rattle.ttx_files.specs.Devices.{AtCycle, AtService};
 ghost use Rattle.ttx_source.specs.Promises.{promises_of};
 ghost use Rattle.ttx_source.specs.Services.{service_of};
-ghost use Rattle.ttx_tool.specs.Devices.{Reads, read_from};
+ghost use Rattle.ttx_faults.specs.Devices.{Reads, read_from};
 ghost use Rattle.ttx_tool.specs.Promised.{DefinesBy, DefinesPromised, ReadsDefined, ReadsPromisedInputs};
 
-use crate::faults::ToolFault;
 use std::alloc::Global;
 use std::io::Read;
 use toml::Table;
 use ttx_cycle::{Counted, Cycle};
+use ttx_faults::ToolFault;
 use ttx_files::{FilesFault, read_packets, read_service_text};
 use ttx_source::{Promise, Service, SourceError, promises_of_table, read_table, service_of_table};
 

@@ -5,18 +5,17 @@ ghost use Rattle.ttx_cycle.specs.Counters.{inner_of};
 ghost use Rattle.ttx_files.specs.Answers.{IsUntouched};
 ghost use Rattle.ttx_files.specs.Devices.{AtCycle};
 ghost use Rattle.ttx_page.specs.Memories.{blank_memory};
-ghost use Rattle.ttx_tool.specs.Devices.{is_tool_write, Fails, read_from, written_to};
+ghost use Rattle.ttx_faults.specs.Devices.{is_tool_write, Fails, read_from, written_to};
 ghost use Rattle.ttx_tool.specs.Receive.{tuned_as, tuned_to, held_by, Receives};
 
-use super::reports::write_text;
-use crate::faults::ToolFault;
 use crate::receiver_steps::hear_file;
-use crate::views::view_lines;
 use std::alloc::Global;
 use std::io::{Read, Write};
 use ttx_arguments::{ReceiverKind, Tuning};
 use ttx_cycle::Counted;
+use ttx_faults::{ToolFault, write_text};
 use ttx_files::FilesFault;
+use ttx_lines::view_lines;
 use ttx_page::PageMemory;
 use ttx_receiver::{Careful, Cleared, Eager, Receiver, Watched};
 

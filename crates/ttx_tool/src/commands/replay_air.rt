@@ -5,16 +5,15 @@ ghost use Rattle.ttx_cycle.specs.Counters.{inner_of, faults_of};
 ghost use Rattle.ttx_files.specs.Answers.{IsUntouched};
 ghost use Rattle.ttx_files.specs.Devices.{output};
 ghost use Rattle.ttx_broadcast.specs.ReplayLines.{outcome_text, outcome_status, log_text};
-ghost use Rattle.ttx_tool.specs.Devices.{is_tool_write, Fails};
+ghost use Rattle.ttx_faults.specs.Devices.{is_tool_write, Fails};
 ghost use Rattle.ttx_tool.specs.ReplayAir.{log_status};
-ghost use Rattle.ttx_tool.specs.Reports.{Reports};
+ghost use Rattle.ttx_faults.specs.Reports.{Reports};
 
-use super::reports::write_text;
-use crate::faults::ToolFault;
 use std::alloc::Global;
 use std::io::Write;
 use ttx_broadcast::{ReplayFault, log_line, outcome_line, outcome_status};
 use ttx_cycle::Counted;
+use ttx_faults::{ToolFault, write_text};
 use ttx_files::FilesFault;
 use ttx_logbook::LogFault;
 

@@ -4,14 +4,14 @@ ghost use Rattle.std.specs.Prelude.{◌≡◌, ◌∷◌, [], IfSome};
 ghost use Rattle.ttx_cycle.specs.Counters.{inner_of};
 ghost use Rattle.ttx_files.specs.Answers.{IsUntouched};
 ghost use Rattle.ttx_files.specs.Devices.{AtCycle};
-ghost use Rattle.ttx_tool.specs.Devices.{is_tool_write, Fails, read_from, written_to};
+ghost use Rattle.ttx_faults.specs.Devices.{is_tool_write, Fails, read_from, written_to};
 ghost use Rattle.ttx_tool.specs.Send.{Sends};
 
-use crate::faults::ToolFault;
 use std::alloc::Global;
 use std::io::{Read, Write};
 use ttx_arguments::Sending;
 use ttx_cycle::{Counted, WriteFault};
+use ttx_faults::ToolFault;
 use ttx_files::{FilesFault, read_packets};
 use ttx_send::Clock;
 

@@ -4,17 +4,16 @@ ghost use Rattle.std.specs.Prelude.{◌∷◌, [], None, IfSome};
 ghost use Rattle.ttx_cycle.specs.Counters.{inner_of, faults_of};
 ghost use Rattle.ttx_files.specs.Answers.{IsUntouched};
 ghost use Rattle.ttx_files.specs.Devices.{AtService, input};
-ghost use Rattle.ttx_tool.specs.Devices.{is_tool_write, Fails, written_to};
-ghost use Rattle.ttx_tool.specs.Reports.{Reports};
+ghost use Rattle.ttx_faults.specs.Devices.{is_tool_write, Fails, written_to};
+ghost use Rattle.ttx_faults.specs.Reports.{Reports};
 ghost use Rattle.ttx_tool.specs.Standing.{Stands};
 
-use super::reports::write_text;
-use crate::faults::ToolFault;
 use std::alloc::Global;
 use std::io::{Read, Write};
 pub use ttx_author_files::Standing;
 use ttx_author_files::read_standing;
 use ttx_cycle::Counted;
+use ttx_faults::{ToolFault, write_text};
 
 /// Reads a service text or an author's text with this name, of at most 4,194,304 bytes: the service text that it stands for, or the lines
 /// about an author's text that has none.

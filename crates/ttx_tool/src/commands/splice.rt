@@ -5,16 +5,16 @@ ghost use Rattle.ttx_files.specs.Answers.{IsUntouched};
 ghost use Rattle.ttx_files.specs.Devices.{IsFirstFailure};
 ghost use Rattle.ttx_tool.specs.Answers.{splice_status, sent_status, late_splice_status};
 ghost use Rattle.ttx_tool.specs.Claims.{change_devices};
-ghost use Rattle.ttx_tool.specs.Devices.{is_tool_write, failed_at};
+ghost use Rattle.ttx_faults.specs.Devices.{is_tool_write, failed_at};
 ghost use Rattle.ttx_tool.specs.Splice.{AnswersChange, Splices};
 
 use crate::claims::Claim;
 use crate::commands::certify::Status;
-use crate::faults::ToolFault;
 use std::alloc::Global;
 use std::io::{Read, Write};
 use ttx_change::{Late, LateSplice};
 use ttx_cycle::Counted;
+use ttx_faults::ToolFault;
 use ttx_proof::{AfterPeriods, AtAnyTime, SentVerdict, SpliceJudge, SpliceVerdict, splice_files};
 
 /// What a change is judged for.

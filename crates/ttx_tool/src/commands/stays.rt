@@ -6,15 +6,15 @@ ghost use Rattle.ttx_cycle.specs.Counters.{inner_of};
 ghost use Rattle.ttx_files.specs.Devices.{AtService};
 ghost use Rattle.ttx_source.specs.Promises.{promises_of};
 ghost use Rattle.ttx_source.specs.Services.{service_of};
-ghost use Rattle.ttx_tool.specs.Devices.{Reads, read_from};
+ghost use Rattle.ttx_faults.specs.Devices.{Reads, read_from};
 ghost use Rattle.ttx_tool.specs.SpreadPlans.{DefinesStaying, DefinesStayingBy, ReadsStaying};
 
 use super::promised::{Promised, define_table};
-use crate::faults::ToolFault;
 use std::alloc::Global;
 use std::io::Read;
 use toml::Table;
 use ttx_cycle::Counted;
+use ttx_faults::ToolFault;
 use ttx_files::{FilesFault, read_service_text};
 use ttx_source::{Promise, SourceError, read_table, stays_of_table};
 

@@ -2,12 +2,12 @@
 
 ghost use Rattle.std.specs.Prelude.{◌∷◌, []};
 ghost use Rattle.ttx_cycle.specs.Counters.{inner_of};
-ghost use Rattle.ttx_tool.specs.Devices.{Fails, written_to};
+ghost use Rattle.ttx_faults.specs.Devices.{Fails, written_to};
 ghost use Rattle.ttx_tool.specs.Version.{version_text, TellsVersion};
 
-use crate::faults::ToolFault;
 use std::io::Write;
 use ttx_cycle::Counted;
+use ttx_faults::ToolFault;
 use ttx_files::write_line;
 
 // What `rt version` says of the kit and the logic by which the program is proved stands behind its own version.

@@ -7,16 +7,15 @@ ghost use Rattle.ttx_cycle.specs.Cycles.{slots_of};
 ghost use Rattle.ttx_files.specs.Answers.{IsUntouched};
 ghost use Rattle.ttx_files.specs.Devices.{AtCycle, AtService};
 ghost use Rattle.ttx_source.specs.PromiseViews.{promise_view};
-ghost use Rattle.ttx_tool.specs.Devices.{is_tool_write, Fails, Reads, read_from, written_to};
+ghost use Rattle.ttx_faults.specs.Devices.{is_tool_write, Fails, Reads, read_from, written_to};
 ghost use Rattle.ttx_tool.specs.Wait.{wait_status, promised_status, shows_promises, IsWaitOf, IsPromisedWaitOf, IsWaitBeside, IsNumbersWaitOf};
 ghost use Rattle.ttx_tool.specs.Wait.{IsWaitRecordOf, IsItemRecordOf, IsRecordOf, IsNumbersRecordOf, IsWaitAsked, WaitsText, Waits};
 
 use super::promised::{Promised, PromisedInputs, read_promised_inputs};
-use super::reports::write_text;
-use crate::faults::ToolFault;
 use std::alloc::Global;
 use std::io::{Read, Write};
 use ttx_cycle::{Counted, Cycle};
+use ttx_faults::{ToolFault, write_text};
 use ttx_files::{FilesFault, Told};
 use ttx_page::Class;
 use ttx_promise::{PromisedReport, report_promises};

@@ -3,7 +3,7 @@ use Rattle.ttx_certificate.specs.Certificates.{fields_of}
 use Rattle.ttx_cycle.specs.Counters.{inner_of, faults_of}
 use Rattle.ttx_cycle.specs.Cycles.{slots_of}
 use Rattle.ttx_files.specs.Devices.{AtCycle, AtService, AtCertificate, AtFeed, input, output}
-use Rattle.ttx_tool.specs.declared.faults.ToolFault.TheVariants.{Files}
+use Rattle.ttx_faults.specs.declared.faults.ToolFault.TheVariants.{Files}
 use Rattle.ttx_tool.proofs.Devices.{refused, went_on}
 use Rattle.ttx_tool.proofs.MonitoredFeeds.{if_all, if_read, report_means}
 use Rattle.ttx_tool.proofs.commands.monitor_reports.run.Goals as goal

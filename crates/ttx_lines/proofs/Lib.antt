@@ -1,0 +1,2 @@
+mod ReadHeaders
+mod FieldLines

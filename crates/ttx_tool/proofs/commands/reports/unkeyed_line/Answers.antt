@@ -1,5 +1,0 @@
-use Rattle.std.proofs.Common.{rules, append_assoc}
-use Rattle.ttx_tool.proofs.commands.reports.unkeyed_line.Goals as goal
-
-pub returns : goal.returns
-returns c = search (rules, append_assoc)

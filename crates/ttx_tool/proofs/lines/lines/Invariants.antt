@@ -1,6 +1,0 @@
-use Rattle.std.proofs.Common.{◌≡◌, ◌++◌, drop, string_bytes}
-use Rattle.ttx_tool.specs.Lines.{lines_from}
-use Rattle.ttx_tool.proofs.lines.lines.Given as goal
-
-abbrev pub invariant-loop-at : goal.invariant-loop-at
-invariant-loop-at l = string_bytes l.text ++ lines_from l.at (drop l.at l.slots) ≡ lines_from 0 l.slots
