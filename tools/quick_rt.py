@@ -14,8 +14,10 @@ Five things differ from the kit's rt:
   wherever the search proves the crate without these: the seed is a proof of such a crate. So a mutant is refused by the contract, and not
   because an answer that was written for the original body no longer fits.
 - Mutants of bodies are first tried by a check of the functions that they change alone, which reads no more of the crate than these rest on. It
-  says of a function what a check of the whole crate says. If it does not refuse the edit, and each of its mutants unless the record has them,
-  rt checks the whole crate. Mutants of definitions are first tried by a check of the functions at which the record says that they are refused.
+  says of a function what a check of the whole crate says, and says it of all edits of a crate at once, as long as no two of them change one
+  function. If it does not refuse an edit, and each of its mutants unless the record has them, rt checks the whole crate with this edit alone.
+  Mutants of definitions are first tried by a check of the functions at which the record says that they are refused, or of one that rests on the
+  lemma which the record says is refused.
 - Lines of their own tell which mutants of an edit its check shows to be refused (gate_log.py).
 
 `make test RT=rt` runs the kit's rt as it is: it proves and tries the same, but leaves the answers in place, tells of no mutant and takes longer.
@@ -24,13 +26,14 @@ So does this script where the kit's rt has another form than it knows. All that 
 import functools
 import os
 import pathlib
+import re
 import shutil
 import sys
 import tempfile
 import threading
 
 from gate_log import mutant_lines
-from mutants import LACKING, PROVED, answers_of, changed_among, mutants_of
+from mutants import LACKING, PROVED, answers_of, changed, changed_among, is_of_body, mutants_of
 from record import Record, crates, logic, sum_of_sources
 
 LOADED = "rtlib = load()\n"
@@ -45,10 +48,11 @@ CHANGES = {
     "        for path, text in texts.items():\n": "        leave_out(crate, room)\n        for path, text in texts.items():\n",
     "must be{': ' + first[:160] if first else ''}": "must be{': ' + first[:160] if first else ''}{told_of(crate, edit, ran.stdout)}",
     "repr((sum, os.path.basename(edit), ": "repr((sum, answers_not_needed(edit.split('/')[-3]), os.path.basename(edit), ",
+    '([*waits, (crate.name, "seed")], OVER * needs)': '([*waits, (crate.name, "seed"), *first_of(crate, edits, number)], OVER * needs)',
 }
 LIBRARY = "the crate's library"
-# what the checks of each crate's edits leave out, and the crate's functions
-LEFT_OUT, FUNCTIONS = {}, {}
+# what the checks of each crate's edits leave out, the crate's functions, and what a check of several edits said of them, by crate and edit
+LEFT_OUT, FUNCTIONS, TRIED = {}, {}, {}
 KIT_RT = pathlib.Path(os.path.realpath(shutil.which("rt") or "rt"))
 
 
@@ -156,28 +160,86 @@ def seeded_from(rt, crate, flags, start):
         return rt["seeded"](crate, flags)
 
 
+def resting_on(name, lemma):
+    """The function of a crate whose written proof rests on a lemma, of several the one that rests on the least text; none if there is no such
+    function."""
+    folder = pathlib.Path("crates", name, "proofs")
+    texts = {".".join(it.relative_to(folder).with_suffix("").parts): it.read_text() for it in folder.rglob("*.antt")}
+    used = {module: re.findall(rf"^(?:pub )?use Rattle\.{name}\.proofs\.([\w+.]+?)(?:\.\{{| as |$)", it, re.M) for module, it in texts.items()}
+    homes = {module for module, it in texts.items() if re.search(rf"^\s*(?:pub )?{re.escape(lemma)}(?!\S)", it, re.M)}
+    found = []
+    for module in texts:
+        *function, last = module.split(".")
+        rests = [module]
+        for it in rests:
+            rests += [other for other in used.get(it, []) if other not in rests]
+        if last in ("Answers", "Proof") and homes.intersection(rests):
+            found.append((sum(len(texts.get(it, "")) for it in rests), "::".join(function)))
+    return min(found, default=(0, ""))[1]
+
+
 def refused_before(name, mutants, functions):
-    """The functions, of all of a crate, at which its mutants were refused when they were last tried; none if one of them was not, or over other
-    sources."""
+    """The functions, of all of a crate, at which its mutants were refused when they were last tried, or that rest on the lemmas which were; none if
+    one of them was not refused, or over other sources."""
     record = Record()
-    found = [record.refused_function(it) for it in mutants]
-    return found if is_recorded(name) and all(it in functions for it in found) else []
+    found = [record.refused_function(it) or resting_on(name, record.refused_lemma(it)) for it in mutants] if is_recorded(name) else []
+    return found if all(it in functions for it in found) else []
+
+
+@functools.cache
+def joined(name):
+    """The edits of a crate that change nothing but bodies of functions, in lists of edits that one check tries: none changes a function that
+    another one of its list changes."""
+    mutants, lists, items = mutants_of(name), [], []
+    for edit in sorted({it.edit for it in mutants} - {it.edit for it in mutants if not is_of_body(it)}):
+        mine = {it for mutant in mutants if mutant.edit == edit for it in changed(mutant)}
+        at = next((at for at, theirs in enumerate(items) if not mine & theirs), len(lists))
+        if at == len(lists):
+            lists.append([])
+            items.append(set())
+        lists[at].append(edit)
+        items[at] |= mine
+    return lists
+
+
+def list_of(name, edit):
+    """The edits that are tried together with one of a crate, itself included."""
+    return next((edits for edits in joined(name) if edit in edits), [edit])
+
+
+def first_of(crate, edits, number):
+    """The task that tries an edit of a crate together with others, if it is that of another edit, for which this one has to wait."""
+    names = [os.path.basename(it) for it in edits]
+    first = names.index(list_of(crate.name, names[number])[0])
+    return [] if first == number else [(crate.name, "edits", first)]
+
+
+def tried_by(rt, crate, edits, functions, flags, kept):
+    """What a check of some functions alone says of some edits of a crate, by the names of those that it refuses."""
+    folder = pathlib.Path(crate.folder, "must-fail")
+    texts, why = rt["edited"]("\n".join((folder / it).read_text() for it in edits), crate.folder)
+    check = None if why else rt["checked"](crate, texts, [*flags, *(word for it in functions for word in ("--only", it))], kept)
+    found = {}
+    for edit in edits if check and check.returncode == 1 else []:
+        mutants = [it for it in mutants_of(crate.name) if it.edit == edit]
+        lines = mutant_lines(crate.name, edit, left_out(crate.name), check.stdout)
+        if len(lines) == len(mutants) or (lines and is_recorded(crate.name)):
+            where = " ".join(changed_among(mutants, functions) or functions)
+            found[edit] = rt["REFUSED"], "\n".join([f"must-fail {crate.name}/{edit}: refused, as it must be: by a check of {where}", *lines])
+    return found
 
 
 def tried_over(rt, crate, edit, flags, kept):
     """What a try of an edit over a seed comes to, as rt's `must_fail` says it. A check of the functions alone that are to be refused comes first,
-    where these are known."""
-    name = os.path.basename(edit)
-    mutants = [it for it in mutants_of(crate.name) if it.edit == name]
-    functions = FUNCTIONS.get(crate.name, [])
-    changed = changed_among(mutants, functions) or refused_before(crate.name, mutants, functions)
-    texts, why = rt["read_edit"](edit, crate.folder)
-    if changed and not why:
-        check = rt["checked"](crate, texts, [*flags, *(word for it in changed for word in ("--only", it))], kept)
-        lines = mutant_lines(crate.name, name, left_out(crate.name), check.stdout) if check.returncode == 1 else []
-        if len(lines) == len(mutants) or (lines and is_recorded(crate.name)):
-            return rt["REFUSED"], "\n".join([f"must-fail {crate.name}/{name}: refused, as it must be: by a check of {' '.join(changed)}", *lines])
-    return rt["must_fail"](crate, edit, flags, kept)
+    where these are known; of the first edit of a list, one of all edits of the list."""
+    name, functions = os.path.basename(edit), FUNCTIONS.get(crate.name, [])
+    together = list_of(crate.name, name)
+    for edits in [together, [name]] if together[0] == name and len(together) > 1 else [[name]]:
+        mutants = [it for it in mutants_of(crate.name) if it.edit in edits]
+        of = changed_among(mutants, functions) or refused_before(crate.name, mutants, functions)
+        if of and (crate.name, name) not in TRIED:
+            TRIED.update({(crate.name, it): told for it, told in tried_by(rt, crate, edits, of, flags, kept).items()})
+    return TRIED.get((crate.name, name)) or rt["must_fail"](crate, edit, flags, kept)
 
 
 def told_of(crate, edit, check):
@@ -194,7 +256,7 @@ def run_rt(name, more=""):
         return None
     for old, new in changes.items():
         text = text.replace(old, new)
-    ours = {it.__name__: it for it in (answers_not_needed, leave_out, reckon_once, seeded_from, told_of, tried_over)}
+    ours = {it.__name__: it for it in (answers_not_needed, first_of, leave_out, reckon_once, seeded_from, told_of, tried_over)}
     names = {"__name__": name, "__file__": str(KIT_RT), "LIBRARY": LIBRARY, **ours}
     exec(compile(text, str(KIT_RT), "exec"), names)
     return names

@@ -81,6 +81,11 @@ class Record:
         row = self.rows.get(mutant.key)
         return row[6] if row and row[5] != "refused by a lemma" else ""
 
+    def refused_lemma(self, mutant):
+        """The lemma that refused a mutant when it was last tried; nothing if a function did."""
+        row = self.rows.get(mutant.key)
+        return row[6] if row and row[5] == "refused by a lemma" else ""
+
     def write(self, mutant, sources_sum, verdict, answers):
         """Puts a verdict on a mutant into the record."""
         tidy = re.sub(r"\s+", " ", verdict.how)[:160]
