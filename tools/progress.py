@@ -2,7 +2,7 @@
 """Runs a command of rt over all crates and prints a line a crate: progress.py LOG COMMAND..
 
 The output of the command goes to LOG. The status is that of the command; if it fails, the faults and the last lines of LOG follow. The
-estimate of what is left comes from the lines of the crates that are still to be done.
+estimate of what is left comes from the lines of the crates that are still to be proved, and of those whose edits are still to be tried.
 """
 import os
 import pathlib
@@ -23,15 +23,15 @@ def lines_of(folder, endings):
 
 
 def weights(with_edits):
-    """The work by name, in lines: each crate, and its mutants if they are tried."""
+    """The work by name, in lines: each crate, and each of its edits if they are tried."""
     told = {}
     for line in open("crates.txt"):
         name = line.split(":")[0].strip()
         folder = pathlib.Path("crates", name)
         told[name] = lines_of(folder, {".rt", ".antt"})
-        if with_edits:
-            # a crate with its mutants takes as long as without
-            told[f"{name} edits"] = told[name] * any(folder.glob("must-fail/*.edit"))
+        edits = sorted(folder.glob("must-fail/*.edit")) if with_edits else []
+        # the edits of all crates take about two thirds of what the proofs take
+        told.update({f"{name}/{it.name}": told[name] * 2 / 3 / len(edits) for it in edits})
     return told
 
 
@@ -48,33 +48,43 @@ def left(elapsed, done, total):
 
 
 class Progress:
-    def __init__(self, weight):
+    """What is done of the work. `tells_of_edits` says whether the command has a line for each edit that it has tried, and not only one before a
+    crate's first."""
+
+    def __init__(self, weight, tells_of_edits):
         self.weight = weight
+        self.tells_of_edits = tells_of_edits
+        self.crates = sum("/" not in name for name in weight)
         self.done = set()
-        self.crates = sum(" " not in name for name in weight)
         self.current = None
         self.start = time.time()
 
-    def note(self, name, what):
-        if name not in self.weight or name in self.done:
+    def edits(self, name):
+        return {it for it in self.weight if it.startswith(f"{name}/")}
+
+    def note(self, names, what):
+        """Counts these as done, and if one of them was not, prints a line: what is said of them, and what is left."""
+        if names <= self.done:
             return
-        self.done.add(name)
+        self.done |= names & self.weight.keys()
         elapsed = time.time() - self.start
-        count = sum(" " not in it for it in self.done)
-        done = sum(self.weight[it] for it in self.done)
-        rest = left(elapsed, done, sum(self.weight.values()))
-        print(f"[{count}/{self.crates}] {name.split()[0]} {what}, {span(elapsed)}{rest}", flush=True)
+        proved = sum("/" not in it for it in self.done)
+        rest = left(elapsed, sum(self.weight[it] for it in self.done), sum(self.weight.values()))
+        print(f"[{proved}/{self.crates}] {what}, {span(elapsed)}{rest}", flush=True)
 
     def read(self, line):
         if begun := re.match(r"== (\w+)$", line):
             self.current = begun[1]
         elif line.startswith("logic=proved") and self.current:
-            self.note(self.current, "proved")
+            self.note({self.current}, f"{self.current} proved")
             self.current = None
         elif kept := re.match(r"rt: (\w+) is kept: an earlier run", line):
             self.done.add(kept[1])
-        elif tried := re.match(r"rt: (\w+): trying its must-fail edits", line):
-            self.note(f"{tried[1]} edits", "begins its wrong bodies")
+        elif begun := re.match(r"rt: (\w+): trying its must-fail edits", line):
+            if not self.tells_of_edits:
+                self.note(self.edits(begun[1]), f"{begun[1]} begins its wrong bodies")
+        elif tried := re.match(r"rt: (\w+): tried (\S+)$", line):
+            self.note({f"{tried[1]}/{tried[2]}"}, f"{tried[1]}'s {tried[2]} tried")
 
 
 def refusals(log):
@@ -87,7 +97,7 @@ def refusals(log):
 def main():
     log, *command = sys.argv[1:]
     pathlib.Path(log).parent.mkdir(parents=True, exist_ok=True)
-    progress = Progress(weights("ci" in command))
+    progress = Progress(weights("ci" in command), any("quick_rt" in it for it in command))
     last = ""
     with open(log, "w", errors="replace") as kept:
         ran = subprocess.Popen(command, stdout=subprocess.PIPE, stderr=subprocess.STDOUT, text=True, errors="replace")

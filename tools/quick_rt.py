@@ -18,7 +18,7 @@ Five things differ from the kit's rt:
   function. If it does not refuse an edit, and each of its mutants unless the record has them, rt checks the whole crate with this edit alone.
   Mutants of definitions are first tried by a check of the functions at which the record says that they are refused, or of one that rests on the
   lemma which the record says is refused.
-- Lines of their own tell which mutants of an edit its check shows to be refused (gate_log.py).
+- Lines of their own tell that an edit was tried, and at the end which of its mutants its check shows to be refused (gate_log.py).
 
 `make test RT=rt` runs the kit's rt as it is: it proves and tries the same, but leaves the answers in place, tells of no mutant and takes longer.
 So does this script where the kit's rt has another form than it knows. All that is known of each mutant is then in the record.
@@ -239,7 +239,9 @@ def tried_over(rt, crate, edit, flags, kept):
         of = changed_among(mutants, functions) or refused_before(crate.name, mutants, functions)
         if of and (crate.name, name) not in TRIED:
             TRIED.update({(crate.name, it): told for it, told in tried_by(rt, crate, edits, of, flags, kept).items()})
-    return TRIED.get((crate.name, name)) or rt["must_fail"](crate, edit, flags, kept)
+    told = TRIED.get((crate.name, name)) or rt["must_fail"](crate, edit, flags, kept)
+    rt["say"](f"{crate.name}: tried {name}")
+    return told
 
 
 def told_of(crate, edit, check):
