@@ -197,20 +197,23 @@ def is_of_body(mutant):
     return True
 
 
+def apart(changes):
+    """Things in lists, each given with the set of items that it changes: no two of a list change one item."""
+    lists, items = [], []
+    for thing, mine in changes:
+        at = next((at for at, theirs in enumerate(items) if not mine & theirs), len(lists))
+        if at == len(lists):
+            lists.append([])
+            items.append(set())
+        lists[at].append(thing)
+        items[at] |= mine
+    return lists
+
+
 def rounds(mutants):
     """The mutants in groups that are tried together: in a group of several, each changes bodies of functions that no other one changes."""
-    groups, alone = [], []
-    for mutant in mutants:
-        if not is_of_body(mutant):
-            alone.append([mutant])
-            continue
-        mine = set(changed(mutant))
-        room = next((group for group in groups if not any(mine & set(changed(it)) for it in group)), None)
-        if room is None:
-            groups.append([mutant])
-        else:
-            room.append(mutant)
-    return groups + alone
+    groups = apart((mutant, set(changed(mutant))) for mutant in mutants if is_of_body(mutant))
+    return groups + [[mutant] for mutant in mutants if not is_of_body(mutant)]
 
 
 def answers_of(folder, mutants):

@@ -64,9 +64,10 @@ class Progress:
 
     def note(self, names, what):
         """Counts these as done, and if one of them was not, prints a line: what is said of them, and what is left."""
-        if names <= self.done:
+        new = names & (self.weight.keys() - self.done)
+        if not new:
             return
-        self.done |= names & self.weight.keys()
+        self.done |= new
         elapsed = time.time() - self.start
         proved = sum("/" not in it for it in self.done)
         rest = left(elapsed, sum(self.weight[it] for it in self.done), sum(self.weight.values()))

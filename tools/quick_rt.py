@@ -33,7 +33,7 @@ import tempfile
 import threading
 
 from gate_log import mutant_lines
-from mutants import LACKING, PROVED, answers_of, changed, changed_among, is_of_body, mutants_of
+from mutants import LACKING, PROVED, answers_of, apart, changed, changed_among, is_of_body, mutants_of
 from record import Record, crates, logic, sum_of_sources
 
 LOADED = "rtlib = load()\n"
@@ -190,16 +190,9 @@ def refused_before(name, mutants, functions):
 def joined(name):
     """The edits of a crate that change nothing but bodies of functions, in lists of edits that one check tries: none changes a function that
     another one of its list changes."""
-    mutants, lists, items = mutants_of(name), [], []
-    for edit in sorted({it.edit for it in mutants} - {it.edit for it in mutants if not is_of_body(it)}):
-        mine = {it for mutant in mutants if mutant.edit == edit for it in changed(mutant)}
-        at = next((at for at, theirs in enumerate(items) if not mine & theirs), len(lists))
-        if at == len(lists):
-            lists.append([])
-            items.append(set())
-        lists[at].append(edit)
-        items[at] |= mine
-    return lists
+    mutants = mutants_of(name)
+    edits = sorted({it.edit for it in mutants} - {it.edit for it in mutants if not is_of_body(it)})
+    return apart((edit, {it for mutant in mutants if mutant.edit == edit for it in changed(mutant)}) for edit in edits)
 
 
 def list_of(name, edit):
