@@ -8,8 +8,10 @@ Five things differ from the kit's rt:
   as long as proving a large crate several times. Here rt keeps each checksum for the rest of the call, and each list of the crates below.
 - `rt ci` proves a crate from nothing, and for its must-fail edits a second time, into a folder that a check of each edit begins with (the
   seed). Here each library keeps the modules that its proof checked, and not the statements alone; the seed begins with these, as it does
-  under `rt must-fail` with what earlier checks kept. The proof is still from nothing, and each edit is still checked by the prover. At the
-  end rt still checks that the crate as it stands is proved over the seed, and otherwise tries each edit from nothing.
+  under `rt must-fail` with what earlier checks kept. The proof is still from nothing, and each edit is still checked by the prover. The
+  seed is made by a check of the crate as it stands, or of those of its functions at which its edits are to be refused. Afterwards rt checks
+  the crate as it stands over the seed once more, and if it is not proved, tries each edit from nothing. Here it does so unless the check that
+  made the seed said the same already: unless it proved anew what it should have read, or an edit needed more than the functions that it checked.
 - The edits of a crate of which the record (record.py) lacks a mutant are tried without the written answers of the functions that they change,
   wherever the search proves the crate without these: the seed is a proof of such a crate. So a mutant is refused by the contract, and not
   because an answer that was written for the original body no longer fits.
@@ -44,6 +46,9 @@ CHANGES = {
     "found[0] if crate in ready else [], waits, both,": "found[0] if crate in ready else [], both[:1], both,",
     "is_well(it, given, new), kept)\n": "is_well(it, given, new), kept, None if crate.is_program else LIBRARY)\n",
     "room = seeded(crate, ": "room = seeded_from(globals(), crate, ",
+    "is_sound = same and not checked(": "is_sound = same and (is_seed_proved(crate.name) or not checked(",
+    'f"{room}/seed").returncode\n        begun["holds"]': 'f"{room}/seed").returncode)\n        begun["holds"]',
+    '        is_none = re.search(r"^tests=0$", said, re.M)\n': '        note_functions(self.name, commands, said)\n        is_none = re.search(r"^tests=0$", said, re.M)\n',
     "must_fail(crate, edits[number], flags, over)": "tried_over(globals(), crate, edits[number], flags, over)",
     "        for path, text in texts.items():\n": "        leave_out(crate, room)\n        for path, text in texts.items():\n",
     "must be{': ' + first[:160] if first else ''}": "must be{': ' + first[:160] if first else ''}{told_of(crate, edit, ran.stdout)}",
@@ -53,6 +58,9 @@ CHANGES = {
 LIBRARY = "the crate's library"
 # what the checks of each crate's edits leave out, the crate's functions, and what a check of several edits said of them, by crate and edit
 LEFT_OUT, FUNCTIONS, TRIED = {}, {}, {}
+# the crates whose seed was made by a check that read all from their library, with the functions that it checked (none for all), and the crates of
+# which an edit was tried by a check of the whole crate
+READ_BACK, TRIED_WHOLE = {}, set()
 KIT_RT = pathlib.Path(os.path.realpath(shutil.which("rt") or "rt"))
 
 
@@ -140,24 +148,52 @@ def put_back(name, check):
     return True
 
 
+def note_functions(name, commands, said):
+    """Keeps the names of a crate's functions, from what its proof says."""
+    if "--test" not in commands[0]:
+        FUNCTIONS[name] = PROVED.findall(said)
+
+
+def only(functions):
+    """The flags of a check of these functions alone; of a whole crate if there are none."""
+    return [word for it in functions for word in ("--only", it)]
+
+
+def functions_tried(name):
+    """The functions that the checks of a crate's edits check, if they are known for each edit."""
+    edits, functions = sorted({it.edit for it in mutants_of(name)}), FUNCTIONS.get(name, [])
+    found = [functions_of([it for it in mutants_of(name) if it.edit == edit], name, functions) for edit in edits] if is_recorded(name) else [[]]
+    return sorted({it for names in found for it in names}) if all(found) else []
+
+
 def seeded_from(rt, crate, flags, start):
     """A seed as rt makes it, of the crate without the answers that it does not need. It begins with what the folder `start` holds, or with the
     crate's library."""
     room = tempfile.mkdtemp(prefix=f"rt-edits-{os.getpid()}-")
     rt["SEEDS"].append(room)
     try:
+        functions = []
         if start == LIBRARY:
             unpack(crate.rlib, f"{room}/seed")
+            functions = functions_tried(crate.name)
         else:
             rt["linked"](start, f"{room}/seed")
-        while (check := rt["checked"](crate, {}, flags, f"{room}/seed")).returncode:
+        while (check := rt["checked"](crate, {}, [*flags, *only(functions)], f"{room}/seed")).returncode:
             if not put_back(crate.name, check):
                 raise ValueError(crate.name)
-        FUNCTIONS[crate.name] = PROVED.findall(check.stdout)
+        if not functions:
+            FUNCTIONS[crate.name] = PROVED.findall(check.stdout)
+        if start == LIBRARY and re.search(rf"^crate {crate.name}: modules loaded=\d+ checked=0$", check.stdout, re.M):
+            READ_BACK[crate.name] = functions
         return room
     except (OSError, TypeError, ValueError, StopIteration):
         shutil.rmtree(room, ignore_errors=True)
         return rt["seeded"](crate, flags)
+
+
+def is_seed_proved(name):
+    """Whether the check that made a crate's seed read all from the crate's library, and checked what the crate's edits were tried over."""
+    return name in READ_BACK and not (READ_BACK[name] and name in TRIED_WHOLE)
 
 
 def resting_on(name, lemma):
@@ -186,6 +222,11 @@ def refused_before(name, mutants, functions):
     return found if all(it in functions for it in found) else []
 
 
+def functions_of(mutants, name, functions):
+    """The functions, of all of a crate, by a check of which its mutants are tried; none if they are not known."""
+    return changed_among(mutants, functions) or refused_before(name, mutants, functions)
+
+
 @functools.cache
 def joined(name):
     """The edits of a crate that change nothing but bodies of functions, in lists of edits that one check tries: none changes a function that
@@ -211,7 +252,7 @@ def tried_by(rt, crate, edits, functions, flags, kept):
     """What a check of some functions alone says of some edits of a crate, by the names of those that it refuses."""
     folder = pathlib.Path(crate.folder, "must-fail")
     texts, why = rt["edited"]("\n".join((folder / it).read_text() for it in edits), crate.folder)
-    check = None if why else rt["checked"](crate, texts, [*flags, *(word for it in functions for word in ("--only", it))], kept)
+    check = None if why else rt["checked"](crate, texts, [*flags, *only(functions)], kept)
     found = {}
     for edit in edits if check and check.returncode == 1 else []:
         mutants = [it for it in mutants_of(crate.name) if it.edit == edit]
@@ -229,10 +270,13 @@ def tried_over(rt, crate, edit, flags, kept):
     together = list_of(crate.name, name)
     for edits in [together, [name]] if together[0] == name and len(together) > 1 else [[name]]:
         mutants = [it for it in mutants_of(crate.name) if it.edit in edits]
-        of = changed_among(mutants, functions) or refused_before(crate.name, mutants, functions)
+        of = functions_of(mutants, crate.name, functions)
         if of and (crate.name, name) not in TRIED:
             TRIED.update({(crate.name, it): told for it, told in tried_by(rt, crate, edits, of, flags, kept).items()})
-    told = TRIED.get((crate.name, name)) or rt["must_fail"](crate, edit, flags, kept)
+    told = TRIED.get((crate.name, name))
+    if not told:
+        TRIED_WHOLE.add(crate.name)
+        told = rt["must_fail"](crate, edit, flags, kept)
     rt["say"](f"{crate.name}: tried {name}")
     return told
 
@@ -251,7 +295,7 @@ def run_rt(name, more=""):
         return None
     for old, new in changes.items():
         text = text.replace(old, new)
-    ours = {it.__name__: it for it in (answers_not_needed, first_of, leave_out, reckon_once, seeded_from, told_of, tried_over)}
+    ours = {it.__name__: it for it in (answers_not_needed, first_of, is_seed_proved, leave_out, note_functions, reckon_once, seeded_from, told_of, tried_over)}
     names = {"__name__": name, "__file__": str(KIT_RT), "LIBRARY": LIBRARY, **ours}
     exec(compile(text, str(KIT_RT), "exec"), names)
     return names
