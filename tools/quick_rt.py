@@ -48,7 +48,7 @@ CHANGES = {
     "room = seeded(crate, ": "room = seeded_from(globals(), crate, ",
     "is_sound = same and not checked(": "is_sound = same and (is_seed_proved(crate.name) or not checked(",
     'f"{room}/seed").returncode\n        begun["holds"]': 'f"{room}/seed").returncode)\n        begun["holds"]',
-    '        is_none = re.search(r"^tests=0$", said, re.M)\n': '        note_functions(self.name, commands, said)\n        is_none = re.search(r"^tests=0$", said, re.M)\n',
+    "                said = self.out.read()\n": "                said = self.out.read()\n                note_functions(self.name, commands, said)\n",
     "must_fail(crate, edits[number], flags, over)": "tried_over(globals(), crate, edits[number], flags, over)",
     "        for path, text in texts.items():\n": "        leave_out(crate, room)\n        for path, text in texts.items():\n",
     "must be{': ' + first[:160] if first else ''}": "must be{': ' + first[:160] if first else ''}{told_of(crate, edit, ran.stdout)}",
@@ -295,8 +295,8 @@ def run_rt(name, more=""):
         return None
     for old, new in changes.items():
         text = text.replace(old, new)
-    ours = {it.__name__: it for it in (answers_not_needed, first_of, is_seed_proved, leave_out, note_functions, reckon_once, seeded_from, told_of, tried_over)}
-    names = {"__name__": name, "__file__": str(KIT_RT), "LIBRARY": LIBRARY, **ours}
+    ours = (answers_not_needed, first_of, is_seed_proved, leave_out, note_functions, reckon_once, seeded_from, told_of, tried_over)
+    names = {"__name__": name, "__file__": str(KIT_RT), "LIBRARY": LIBRARY, **{it.__name__: it for it in ours}}
     exec(compile(text, str(KIT_RT), "exec"), names)
     return names
 
